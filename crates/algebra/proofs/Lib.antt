@@ -1,0 +1,12 @@
+pub mod Symbols
+pub mod Totals
+pub mod Spans
+pub mod Unique
+pub mod Triangular
+pub mod Growing
+pub mod Elimination
+pub mod Forms
+pub mod Cells
+pub mod Checks
+pub mod Syndromes
+pub mod Cuts

@@ -1,0 +1,4 @@
+pub mod Words
+pub mod Reduced
+pub mod Checks
+pub mod Elimination

@@ -1,0 +1,5 @@
+pub mod Holding
+pub mod Standing
+pub mod Sealing
+pub mod Encoding
+pub mod Leading

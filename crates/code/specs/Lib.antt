@@ -1,0 +1,4 @@
+pub mod Refusals
+pub mod Drafts
+pub mod Codes
+pub mod Histories

@@ -1,0 +1,48 @@
+-- Refusals by number and value, and calls by the causes for which they are refused.
+use mathlib.Core.Path.{_≡_}
+use mathlib.Core.Logic.{_⊎_}
+use Prim.Native.Nat.{ℕ}
+use Rattle.std.specs.declared.option.Option.{Option}
+use Rattle.std.specs.declared.option.Option.the-variants.{Some, None}
+use Rattle.std.specs.declared.result.Result.{Result}
+use Rattle.std.specs.declared.result.Result.the-variants.{Ok, Err}
+use Rattle.code.specs.declared.refusal.Refusal.{Refusal}
+use Rattle.code.specs.declared.refusal.Refusal.the-variants.{Length, RowsHeld, WrongLength, NoSymbol, Dependent, NoRow, BufferLength, Index}
+
+-- the number by which a refusal is told
+abbrev pub number : Refusal → ℕ
+number (Length n) = 1
+number (RowsHeld k) = 2
+number (WrongLength n) = 4
+number (NoSymbol p) = 5
+number (Dependent k) = 6
+number NoRow = 7
+number (BufferLength n) = 10
+number (Index k) = 11
+
+-- the value that is returned with it, or nothing
+abbrev pub value : Refusal → Option ℕ
+value (Length n) = Some n
+value (RowsHeld k) = Some k
+value (WrongLength n) = Some n
+value (NoSymbol p) = Some p
+value (Dependent k) = Some k
+value NoRow = None
+value (BufferLength n) = Some n
+value (Index k) = Some k
+
+-- A call's causes of refusal stand one after the other. The first that holds is told, by its number
+-- and value; where none holds, the call is accepted, with an answer that keeps P.
+abbrev pub accepted : {A : Type 0} → (A → Type 0) → Result A Refusal → Type 0
+accepted P (Ok a) = P a
+accepted P (Err e) = ⊥
+
+-- a cause, with its number and value, and the causes after it
+abbrev pub refused-if : {A : Type 0} → Type 0 → ℕ → Option ℕ → (Result A Refusal → Type 0) → Result A Refusal → Type 0
+refused-if C n v next (Ok a) = (C → ⊥) × next (Ok a)
+refused-if C n v next (Err e) = (C × (number e ≡ n) × (value e ≡ v)) ⊎ ((C → ⊥) × next (Err e))
+
+-- a cause that holds at some place, with its number and that place, and the causes after it
+abbrev pub refused-at : {A : Type 0} → (ℕ → Type 0) → ℕ → (Result A Refusal → Type 0) → Result A Refusal → Type 0
+refused-at C n next (Ok a) = ((p : ℕ) → C p → ⊥) × next (Ok a)
+refused-at C n next (Err e) = ((p : ℕ) × C p × (number e ≡ n) × (value e ≡ Some p)) ⊎ (((p : ℕ) → C p → ⊥) × next (Err e))

@@ -1,0 +1,105 @@
+// A sealed code: its generator can be read and encoded with, and no call changes it.
+ghost use lib.ListN.{length};
+ghost use mathlib.Core.List.{List};
+ghost use mathlib.Core.Path.{_≡_};
+ghost use Prim.Native.Nat.{ℕ};
+ghost use Rattle.std.specs.Results.{Cases};
+ghost use Rattle.generator.specs.Parts.{size, dimension};
+ghost use Rattle.code.specs.Drafts.{State, Holds};
+ghost use Rattle.code.specs.Histories.{Call, Held, Follows};
+ghost use Rattle.code.specs.Codes.{Sealed, Message-encoded, Reduced-read, Check-read};
+use crate::draft::Draft;
+use crate::draft::first_no_symbol;
+use crate::refusal::Refusal;
+use field::Field;
+use generator::Generator;
+use std::marker::PhantomData;
+
+#[derive(Drop)]
+pub struct Code<F> {
+    generator: Generator,
+    field: PhantomData<F>,
+}
+
+impl<F: Field> Draft<F> {
+    // Ends the draft, and gives the code that its rows generate.
+    pub fn seal(self) -> Code<F>
+        ensures told { λ r. ⌜ ((s : State) → Holds (F·Field .ops) (self .basis) s → Sealed (F·Field .ops) s (r .generator)) ⌝ }
+        ensures follows { λ r. ⌜ ((calls : List Call) (s : State) → Follows (F·Field .ops) calls (self .basis) → Held (F·Field .ops) calls s → Sealed (F·Field .ops) s (r .generator)) ⌝ }
+    {
+        Code {
+            generator: self.basis.generator::<F>(),
+            field: PhantomData,
+        }
+    }
+}
+
+impl<F: Field> Code<F> {
+    pub fn length(&self) -> usize
+        ensures { λ r. ⌜ r ≡ size (now (self .entry) .generator) ⌝ }
+    {
+        self.generator.length()
+    }
+
+    // How many symbols a message has.
+    pub fn dimension(&self) -> usize
+        ensures { λ r. ⌜ r ≡ dimension (now (self .entry) .generator) ⌝ }
+    {
+        self.generator.dimension()
+    }
+
+    // Writes the codeword of a message.
+    pub fn encode(&self, message: &[u8], out: &mut [u8]) -> Result<(), Refusal>
+        ensures told { λ r. ⌜ Message-encoded (F·Field .ops) (now (self .entry) .generator) (now (message .entry)) (length (now (out .entry))) (now (out .exit)) r ⌝ }
+        ensures kept { λ r. ⌜ Cases r (λ _. Unit {0}) (λ _. now (out .exit) ≡ now (out .entry)) ⌝ }
+    {
+        let k = self.generator.dimension();
+        if message.len() != k {
+            return Err(Refusal::WrongLength(k));
+        }
+        if let Some(place) = first_no_symbol::<F>(message) {
+            return Err(Refusal::NoSymbol(place));
+        }
+        let n = self.generator.length();
+        if out.len() != n {
+            return Err(Refusal::BufferLength(n));
+        }
+        self.generator.encode::<F>(message, out);
+        Ok(())
+    }
+
+    // Writes the reduced row i, and answers its information place.
+    pub fn reduced_row(&self, i: usize, out: &mut [u8]) -> Result<usize, Refusal>
+        ensures told { λ r. ⌜ Reduced-read (F·Field .ops) (now (self .entry) .generator) i (length (now (out .entry))) (now (out .exit)) r ⌝ }
+        ensures kept { λ r. ⌜ Cases r (λ _. Unit {0}) (λ _. now (out .exit) ≡ now (out .entry)) ⌝ }
+    {
+        let n = self.generator.length();
+        if out.len() != n {
+            return Err(Refusal::BufferLength(n));
+        }
+        let k = self.generator.dimension();
+        if i >= k {
+            return Err(Refusal::Index(k));
+        }
+        for p in 0..out.len() {
+            out[p] = self.generator.symbol::<F>(i, p);
+        }
+        Ok(self.generator.place(i))
+    }
+
+    // Writes the check row i.
+    pub fn check_row(&self, i: usize, out: &mut [u8]) -> Result<(), Refusal>
+        ensures told { λ r. ⌜ Check-read (F·Field .ops) (now (self .entry) .generator) i (length (now (out .entry))) (now (out .exit)) r ⌝ }
+        ensures kept { λ r. ⌜ Cases r (λ _. Unit {0}) (λ _. now (out .exit) ≡ now (out .entry)) ⌝ }
+    {
+        let n = self.generator.length();
+        if out.len() != n {
+            return Err(Refusal::BufferLength(n));
+        }
+        let Some(place) = self.generator.check_place(i) else {
+            return Err(Refusal::Index(n - self.generator.dimension()));
+        };
+        self.generator.check_row::<F>(place, out);
+        Ok(())
+    }
+}
