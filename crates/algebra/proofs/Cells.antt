@@ -11,7 +11,7 @@ use Rattle.std.proofs.shelf.Tests.{cases-eq, cases-lt}
 use Rattle.field.specs.Field.{Ops, Laws}
 use Rattle.algebra.specs.Words.{word, symbol, cells, symbol-cells, Symbol-rows}
 use Rattle.algebra.proofs.Symbols.{symbol-below, symbol-is, symbol-none, zero-symbol}
-use Rattle.algebra.proofs.Totals.{product-zero, zero-product}
+use Rattle.algebra.proofs.Totals.{product-zero}
 
 pub cells-set-same : (rows : List (List ℕ)) (i : ℕ) (r : List ℕ) (k : ℕ) → i < length rows → cells (set rows i r) i k ≡ word r k
 cells-set-same rows i r k h = ap (λ x. getD x k 0) (getD-set-same rows i r [] h)
@@ -53,9 +53,6 @@ module _ (f : Ops) (l : Laws f) where
   pub by-zero : (c : ℕ) → f .product c 0 ≡ 0
   by-zero c = elim (cases-lt c (f .order)) [ inl h ↦ product-zero f l c h | inr h ↦ l .product-left-none c 0 h ]
 
-  pub zero-by : (x : ℕ) → f .product 0 x ≡ 0
-  zero-by x = elim (cases-lt x (f .order)) [ inl h ↦ zero-product f l x h | inr h ↦ l .product-right-none 0 x h ]
-
   -- every product is a symbol
   pub product-closed : (a b : ℕ) → f .product a b < f .order
   product-closed a b = elim (cases-lt a (f .order)) [
@@ -68,12 +65,6 @@ module _ (f : Ops) (l : Laws f) where
   product-as-symbol c x = elim (cases-lt x (f .order)) [
     | inl h ↦ ap (f .product c) (symbol-is f x h)
     | inr h ↦ ap (f .product c) (symbol-none f x h) ∙ by-zero c ∙ sym (l .product-right-none c x h)
-  ]
-
-  pub symbol-as-factor : (c x : ℕ) → f .product (symbol f c) x ≡ f .product c x
-  symbol-as-factor c x = elim (cases-lt c (f .order)) [
-    | inl h ↦ ap (λ y. f .product y x) (symbol-is f c h)
-    | inr h ↦ ap (λ y. f .product y x) (symbol-none f c h) ∙ zero-by x ∙ sym (l .product-left-none c x h)
   ]
 
   pub symbol-rows : (rows : List (List ℕ)) → Symbol-rows f (symbol-cells f rows)

@@ -11,9 +11,9 @@ use lib.ListN.{length, getD}
 use Rattle.std.proofs.shelf.Lists.{append-nil, length-append, length-push, getD-push, getD-append-left}
 use Rattle.std.proofs.shelf.Tests.{cases-bool, cases-eq, cases-lt, cond-true, cond-false, cond-both, eq-eqb, ne-eqb, true≢false}
 use Rattle.field.specs.Field.{Ops, Laws}
-use Rattle.algebra.specs.Words.{Symbols, Symbol-rows}
+use Rattle.algebra.specs.Words.{Symbols}
 use Rattle.algebra.specs.Checks.{informs, check-places, check-place, at-information, check-row}
-use Rattle.algebra.proofs.Symbols.{zero-symbol, one-symbol}
+use Rattle.algebra.proofs.Symbols.{zero-symbol}
 use Rattle.algebra.proofs.Unique.{found}
 
 pub informs-none : (at : ℕ → ℕ) (m p : ℕ) → ((j : ℕ) → j < m → at j ≡ p → ⊥) → informs at m p ≡ false
@@ -167,8 +167,3 @@ module _ (f : Ops) (m : ℕ) (rs : ℕ → ℕ → ℕ) (at : ℕ → ℕ) where
 
   pub check-row-other : (p k : ℕ) → (k ≡ p → ⊥) → informs at m k ≡ false → check-row f m rs at p k ≡ 0
   check-row-other p k ne out = cond-false _ _ _ (ne-eqb k p ne) ∙ information-other at (λ i. f .negative (rs i p)) m k out
-
-  pub check-row-symbol : Laws f → Symbol-rows f rs → (p : ℕ) → Symbols f (check-row f m rs at p)
-  check-row-symbol l s p k =
-      cond-both (eqb k p) 1 (at-information at m (λ i. f .negative (rs i p)) k) (λ x. x < f .order)
-      (λ _. one-symbol l) (λ _. information-symbol at (λ i. f .negative (rs i p)) f l (λ i. l .negative-symbol _ (s i p)) m k)

@@ -6,7 +6,7 @@ use native.Mathlib.Omega.{arith}
 use Rattle.std.proofs.shelf.Tests.{cases-eq, cases-lt}
 use Rattle.field.specs.Field.{Ops, Laws}
 use Rattle.algebra.specs.Words.{Symbol-rows, Span, Same-span}
-use Rattle.algebra.specs.Reduced.{Reduced, Reduced-form, Only-form, First-place}
+use Rattle.algebra.specs.Reduced.{Reduced-form, Only-form, First-place}
 use Rattle.algebra.specs.Elimination.{Reduction}
 use Rattle.algebra.proofs.Totals.{product-zero, total-zero}
 use Rattle.algebra.proofs.Spans.{span-same, span-zero, span-row, same-span}

@@ -125,9 +125,6 @@ module _ (f : Ops) (l : Laws f) where
           ];
         }
 
-        pub grown-symbols : (k : ℕ) → ss m k < f .order
-        grown-symbols k = rw (new k) (l .product-symbol _ _ scale-symbol (r .symbols k))
-
         -- v = (v p) (the new row)
         scaled-back : (k : ℕ) → f .product (v p) (ss m k) ≡ v k
         scaled-back k =

@@ -2,14 +2,14 @@
 use mathlib.Core.Path.{_≡_, refl, sym, ap, ap₂, _∙_}
 use mathlib.Core.Bool.{cond}
 use mathlib.Core.Logic.{inl, inr}
-use Prim.Native.Nat.{ℕ, zero, suc, _<_, _≤_}
+use Prim.Native.Nat.{ℕ, zero, suc, _<_}
 use native.Mathlib.Omega.{arith}
 use lib.Dec.{eqb}
 use Rattle.std.proofs.shelf.Tests.{cases-eq, cond-true, cond-false, cond-both, eq-eqb, ne-eqb}
 use Rattle.field.specs.Field.{Ops, Laws}
 use Rattle.algebra.specs.Words.{Symbols, Symbol-rows, combination, Span, Same-span}
 use Rattle.algebra.proofs.Symbols.{zero-symbol, one-symbol}
-use Rattle.algebra.proofs.Totals.{sum-zero-right, product-zero, zero-product, total-symbol, total-same, total-zero, total-sum, total-product, total-one}
+use Rattle.algebra.proofs.Totals.{sum-zero-right, zero-product, total-symbol, total-same, total-zero, total-sum, total-product, total-one}
 
 module _ (f : Ops) (l : Laws f) where
   pub product-one-right : (a : ℕ) → a < f .order → f .product a 1 ≡ a
@@ -95,23 +95,8 @@ module _ (f : Ops) (l : Laws f) where
     back = λ w p. span-same m rs r w _ (p .is) (span-within n ss m rs r back (p .coefficients) (p .symbols));
   }
 
-  -- the steps of an elimination: ss is rs but for the row i, or the rows i and j
+  -- two steps of an elimination: ss is rs but for the row i, or the rows i and j
   module _ (m : ℕ) (rs ss : ℕ → ℕ → ℕ) (r : Symbol-rows f rs) (s : Symbol-rows f ss) (i : ℕ) (hi : i < m) where
-    pub added-span : (j c : ℕ) → j < m → (j ≡ i → ⊥) → c < f .order → ((k : ℕ) → ss i k ≡ f .sum (rs i k) (f .product c (rs j k)))
-        → ((h k : ℕ) → (h ≡ i → ⊥) → ss h k ≡ rs h k) → Same-span f m rs m ss
-    added-span j c hj ne hc new old =
-        same-span m rs m ss r s
-        (λ h hh. elim (cases-eq h i) [
-          | inl e ↦ span-same m ss s (rs h) _
-              (λ k. ap (λ x. rs x k) e ∙ sym (ap₂ (λ x y. f .sum x (f .product (f .negative c) y)) (new k) (old j k ne) ∙ taken-back (rs i k) (rs j k) c (r i k) (r j k) hc))
-              (span-sum m ss s _ _ (span-row m ss s i hi) (span-product m ss s (f .negative c) _ (l .negative-symbol c hc) (span-row m ss s j hj)))
-          | inr n ↦ span-same m ss s (rs h) (ss h) (λ k. sym (old h k n)) (span-row m ss s h hh)
-        ])
-        (λ h hh. elim (cases-eq h i) [
-          | inl e ↦ span-same m rs r (ss h) _ (λ k. ap (λ x. ss x k) e ∙ new k) (span-sum m rs r _ _ (span-row m rs r i hi) (span-product m rs r c _ hc (span-row m rs r j hj)))
-          | inr n ↦ span-same m rs r (ss h) (rs h) (λ k. old h k n) (span-row m rs r h hh)
-        ])
-
     pub scaled-span : (c : ℕ) → c < f .order → (c ≡ 0 → ⊥) → ((k : ℕ) → ss i k ≡ f .product c (rs i k))
         → ((h k : ℕ) → (h ≡ i → ⊥) → ss h k ≡ rs h k) → Same-span f m rs m ss
     scaled-span c hc nz new old =

@@ -1,11 +1,11 @@
 -- Numbers and symbols: 0 and 1 are symbols, and a number that is none counts as 0.
-use mathlib.Core.Path.{_≡_, refl, sym, ap, _∙_}
+use mathlib.Core.Path.{_≡_, sym, _∙_}
 use mathlib.Core.Logic.{inl, inr}
 use Prim.Native.Nat.{ℕ, _<_, _≤_}
 use native.Mathlib.Omega.{arith}
 use Rattle.std.proofs.shelf.Tests.{cases-lt, cond-true, cond-false, lt-ltb, le-ltb}
 use Rattle.field.specs.Field.{Ops, Laws}
-use Rattle.algebra.specs.Words.{symbol, Symbols}
+use Rattle.algebra.specs.Words.{symbol}
 
 pub zero-symbol : {f : Ops} → Laws f → 0 < f .order
 zero-symbol l = omega (arith, l .least)

@@ -18,7 +18,7 @@ use Rattle.algebra.proofs.Totals.{sum-zero-right, product-zero, total-symbol, 
 use Rattle.algebra.proofs.Cells.{product-closed}
 use Rattle.algebra.proofs.Spans.{product-one-right, combination-symbol}
 use Rattle.algebra.proofs.Unique.{found, read-off}
-use Rattle.algebra.proofs.Checks.{informs-none, check-place-at, check-found, information-other, information-symbol, check-row-own, check-row-symbol}
+use Rattle.algebra.proofs.Checks.{informs-none, check-place-at, check-found, information-other, information-symbol, check-row-own}
 
 module _ (f : Ops) (l : Laws f) where
   -- symbols whose negative is the same are equal

@@ -1,5 +1,4 @@
 -- Check places, check rows, and the syndrome of a word, for m systematic rows of length n.
-use mathlib.Core.Path.{_≡_}
 use mathlib.Core.Bool.{Bool, true, false, cond}
 use mathlib.Core.List.{List, [], _∷_, _++_}
 use Prim.Native.Nat.{ℕ, zero, suc, _+_, _*_}

@@ -1,7 +1,6 @@
 -- The reduced row echelon form, as a relation between rows and their information places.
 use mathlib.Core.Path.{_≡_}
-use mathlib.Core.Logic.{_⊎_}
-use Prim.Native.Nat.{ℕ, _<_, _≤_}
+use Prim.Native.Nat.{ℕ, _<_}
 use Rattle.field.specs.Field.{Ops}
 use Rattle.algebra.specs.Words.{Symbol-rows, Same-span}
 

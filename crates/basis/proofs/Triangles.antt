@@ -2,7 +2,7 @@
 use mathlib.Core.Path.{_≡_, ap, _∙_}
 use Prim.Native.Nat.{ℕ, _<_, _≤_}
 use Rattle.field.specs.Field.{Ops, Laws}
-use Rattle.algebra.specs.Words.{word, symbol, Symbol-rows, Independent}
+use Rattle.algebra.specs.Words.{symbol, Symbol-rows}
 use Rattle.algebra.proofs.Symbols.{symbol-zero, symbol-one}
 use Rattle.algebra.proofs.Cells.{symbol-rows}
 use Rattle.algebra.proofs.Triangular.{Triangular}

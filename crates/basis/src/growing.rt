@@ -1,6 +1,5 @@
 // A row more, and a row less.
 ghost use lib.ListN.{length, getD};
-ghost use mathlib.Core.List.{[]};
 ghost use mathlib.Core.Path.{_≡_};
 ghost use Prim.Native.Nat.{ℕ, _+_, _-_, _<_, _≤_, min};
 ghost use Rattle.algebra.specs.Words as Words;
@@ -25,19 +24,6 @@ impl Basis {
             rows: [[0; 24]; 24],
             pivots: [0; 24],
         }
-    }
-
-    pub fn length(&self) -> usize
-        ensures { λ r. ⌜ r ≡ size (now (self .entry)) ⌝ }
-    {
-        self.n
-    }
-
-    // How many rows there are.
-    pub fn count(&self) -> usize
-        ensures { λ r. ⌜ r ≡ count (now (self .entry)) ⌝ }
-    {
-        self.k
     }
 
     // Takes the last row off, and tells whether there was one.

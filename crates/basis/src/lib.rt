@@ -6,6 +6,7 @@ ghost use Prim.Native.Nat.{ℕ, _<_, _≤_};
 ghost use Rattle.algebra.specs.Words.{cells};
 
 pub mod growing;
+pub mod parts;
 pub mod reducing;
 
 // `k` rows of `n` places, each as it is left by those before it: with 1 at its own pivot place and

@@ -1,6 +1,6 @@
 // The generator of a basis.
 ghost use mathlib.Core.Path.{_≡_};
-ghost use Prim.Native.Nat.{ℕ, _<_};
+ghost use Prim.Native.Nat.{_<_};
 ghost use Rattle.algebra.specs.Reduced.{Reduced-form, Only-form, First-place};
 ghost use Rattle.basis.specs.Parts.{size, count, rows-of};
 ghost use Rattle.generator.specs.Parts as Generators;

@@ -1,6 +1,6 @@
 -- A basis goes on standing for a draft's rows when one is loaded or withdrawn.
 use mathlib.Core.Path.{_≡_, refl, sym, ap, subst, _∙_}
-use mathlib.Core.Bool.{true, false}
+use mathlib.Core.Bool.{true}
 use mathlib.Core.List.{List, [], _∷_, _++_}
 use mathlib.Core.Logic.{inl, inr}
 use Prim.Native.Nat.{ℕ, _+_, _-_, _<_, _≤_}
@@ -9,9 +9,9 @@ use lib.ListN.{length, getD, take}
 use Rattle.std.proofs.shelf.Lists.{getD-append-left, getD-push, length-push, getD-past, getD-take, length-take}
 use Rattle.std.proofs.shelf.Tests.{cases-eq, cases-lt}
 use Rattle.field.specs.Field.{Ops, Laws}
-use Rattle.algebra.specs.Words.{word, cells, cut, symbol-cells, with-row, Symbols, Symbol-rows, Span, Same-span, Dependent, Independent}
+use Rattle.algebra.specs.Words.{word, cells, cut, symbol-cells, with-row, Symbols, Span, Same-span, Dependent, Independent}
 use Rattle.algebra.proofs.Symbols.{zero-symbol}
-use Rattle.algebra.proofs.Cuts.{cut-whole, cut-symbols}
+use Rattle.algebra.proofs.Cuts.{cut-whole}
 use Rattle.algebra.proofs.Spans.{span-same, span-row, span-within}
 use Rattle.algebra.proofs.Triangular.{triangular-independent}
 use Rattle.algebra.proofs.Elimination.{same-trans}

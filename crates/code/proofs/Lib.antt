@@ -3,3 +3,4 @@ pub mod Standing
 pub mod Sealing
 pub mod Encoding
 pub mod Leading
+pub mod Checking

@@ -1,6 +1,6 @@
 -- The generator of a basis is the reduced form of the rows for which the basis stands.
-use mathlib.Core.Path.{_≡_, sym, _∙_}
-use Prim.Native.Nat.{ℕ, _<_}
+use mathlib.Core.Path.{_≡_, _∙_}
+use Prim.Native.Nat.{ℕ}
 use lib.ListN.{length}
 use Rattle.field.specs.Field.{Ops, Laws}
 use Rattle.algebra.specs.Words.{cells}

@@ -8,9 +8,8 @@ use Rattle.std.specs.declared.result.Result.{Result}
 use Rattle.field.specs.Field.{Ops}
 use Rattle.algebra.specs.Words.{word, cells, combination, Span, Independent}
 use Rattle.algebra.specs.Reduced.{Reduced-form, Only-form, First-place}
-use Rattle.algebra.specs.Checks.{check-place}
 use Rattle.generator.specs.declared.Generator.{Generator}
-use Rattle.generator.specs.Parts.{size, dimension, rows-of, places-of, check-row-of}
+use Rattle.generator.specs.Parts.{size, dimension, rows-of, places-of, check-place-of, check-row-of}
 use Rattle.code.specs.declared.refusal.Refusal.{Refusal}
 use Rattle.code.specs.Drafts.{State, First-none}
 use Rattle.code.specs.Refusals.{accepted, refused-if, refused-at}
@@ -57,9 +56,17 @@ Reduced-read f g i room out =
     (refused-if (dimension g ≤ i) 11 (Some (dimension g))
     (accepted (λ p. (p ≡ places-of g i) × ((k : ℕ) → word out k ≡ rows-of f g i k))))
 
+-- `out` is check row i of a code: 1 at check place i, at the information place of reduced row j the negative of
+-- that row's symbol there, and 0 at every other place.
+pub record Check-row (f : Ops) (g : Generator) (i : ℕ) (out : List ℕ) : Type 0 where
+  pub is : (k : ℕ) → k < size g → word out k ≡ check-row-of f g (check-place-of g i) k
+  pub own : word out (check-place-of g i) ≡ 1
+  pub information : (j : ℕ) → j < dimension g → word out (places-of g j) ≡ f .negative (rows-of f g j (check-place-of g i))
+  pub others : (k : ℕ) → k < size g → (k ≡ check-place-of g i → ⊥) → ((j : ℕ) → j < dimension g → places-of g j ≡ k → ⊥) → word out k ≡ 0
+
 -- reading the check row i
 abbrev pub Check-read : Ops → Generator → ℕ → ℕ → List ℕ → Result Unit Refusal → Type 0
 Check-read f g i room out =
     refused-if (room ≡ size g → ⊥) 10 (Some (size g))
     (refused-if (size g - dimension g ≤ i) 11 (Some (size g - dimension g))
-    (accepted (λ _. (k : ℕ) → k < size g → word out k ≡ check-row-of f g (check-place (places-of g) (dimension g) (size g) i) k)))
+    (accepted (λ _. Check-row f g i out)))

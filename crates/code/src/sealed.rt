@@ -2,7 +2,6 @@
 ghost use lib.ListN.{length};
 ghost use mathlib.Core.List.{List};
 ghost use mathlib.Core.Path.{_≡_};
-ghost use Prim.Native.Nat.{ℕ};
 ghost use Rattle.std.specs.Results.{Cases};
 ghost use Rattle.generator.specs.Parts.{size, dimension};
 ghost use Rattle.code.specs.Drafts.{State, Holds};

@@ -1,14 +1,14 @@
 -- From the reduction of framed rows to a generator.
-use mathlib.Core.Path.{_≡_, refl, sym, ap, subst, _∙_}
+use mathlib.Core.Path.{_≡_, sym, ap, _∙_}
 use mathlib.Core.List.{List, []}
 use mathlib.Core.Logic.{inl, inr}
 use Prim.Native.Nat.{ℕ, _<_, _≤_}
 use native.Mathlib.Omega.{arith}
-use lib.ListN.{length, getD}
+use lib.ListN.{length}
 use Rattle.std.proofs.shelf.Lists.{getD-past}
 use Rattle.std.proofs.shelf.Tests.{cases-lt}
 use Rattle.field.specs.Field.{Ops, Laws}
-use Rattle.algebra.specs.Words.{word, cells, symbol, symbol-cells, cut, Symbol-rows}
+use Rattle.algebra.specs.Words.{word, cells, symbol, symbol-cells, cut}
 use Rattle.algebra.specs.Reduced.{Reduced-form}
 use Rattle.algebra.specs.Elimination.{Reduction}
 use Rattle.algebra.proofs.Symbols.{symbol-is, symbol-zero}

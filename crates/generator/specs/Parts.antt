@@ -4,7 +4,7 @@ use mathlib.Core.Path.{_≡_}
 use Prim.Native.Nat.{ℕ, _≤_}
 use Rattle.field.specs.Field.{Ops}
 use Rattle.algebra.specs.Words.{word, cells, cut, symbol-cells, Symbols, Span}
-use Rattle.algebra.specs.Checks.{check-row, syndrome}
+use Rattle.algebra.specs.Checks.{check-place, check-row, syndrome}
 use Rattle.generator.specs.declared.Generator.{Generator}
 
 -- its length
@@ -22,6 +22,10 @@ rows-of f g = symbol-cells f (g .rows)
 -- the information place of each row
 abbrev pub places-of : Generator → ℕ → ℕ
 places-of g = word (g .places)
+
+-- its check place i
+abbrev pub check-place-of : Generator → ℕ → ℕ
+check-place-of g i = check-place (places-of g) (dimension g) (size g) i
 
 -- its check row of the check place p
 abbrev pub check-row-of : Ops → Generator → ℕ → ℕ → ℕ

@@ -3,8 +3,8 @@ ghost use lib.ListN.{length, getD};
 ghost use mathlib.Core.Path.{_≡_};
 ghost use Prim.Native.Nat.{ℕ, _+_, _-_, _<_, _≤_};
 ghost use Rattle.algebra.specs.Words.{total};
-ghost use Rattle.algebra.specs.Checks.{check-place, index};
-ghost use Rattle.generator.specs.Parts.{size, dimension, places-of, check-row-of, syndrome-of, Zero-exactly};
+ghost use Rattle.algebra.specs.Checks.{index};
+ghost use Rattle.generator.specs.Parts.{size, dimension, check-place-of, check-row-of, syndrome-of, Zero-exactly};
 ghost use Rattle.std.specs.Options.{Cases as BySome};
 use crate::Generator;
 use field::Field;
@@ -13,7 +13,7 @@ use linear::rows::at;
 impl Generator {
     // The check place i: the places that are no information places, in their order.
     pub fn check_place(&self, i: usize) -> Option<usize>
-        ensures { λ r. ⌜ BySome r (size (now (self .entry)) ≤ i + dimension (now (self .entry))) (λ p. (i + dimension (now (self .entry)) < size (now (self .entry))) × (p < size (now (self .entry))) × (p ≡ check-place (places-of (now (self .entry))) (dimension (now (self .entry))) (size (now (self .entry))) i)) ⌝ }
+        ensures { λ r. ⌜ BySome r (size (now (self .entry)) ≤ i + dimension (now (self .entry))) (λ p. (i + dimension (now (self .entry)) < size (now (self .entry))) × (p < size (now (self .entry))) × (p ≡ check-place-of (now (self .entry)) i)) ⌝ }
     {
         if i >= self.n - self.k {
             return None;

@@ -1,5 +1,5 @@
 -- The loop that makes a place 0 in every row but one.
-use mathlib.Core.Path.{_≡_, refl, sym, ap, _∙_}
+use mathlib.Core.Path.{_≡_, sym, _∙_}
 use mathlib.Core.Logic.{inl, inr}
 use mathlib.Core.List.{List, []}
 use Prim.Native.Nat.{ℕ, _+_, _<_, _≤_}
@@ -7,7 +7,7 @@ use native.Mathlib.Omega.{arith}
 use lib.ListN.{length, getD, set}
 use Rattle.std.proofs.shelf.Lists.{getD-set-other}
 use Rattle.std.proofs.shelf.Tests.{cases-eq}
-use Rattle.field.specs.Field.{Ops, Laws}
+use Rattle.field.specs.Field.{Ops}
 use Rattle.algebra.specs.Words.{word, cells}
 use Rattle.algebra.proofs.Cells.{cells-set-same, cells-set-other}
 

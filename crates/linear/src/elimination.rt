@@ -1,5 +1,5 @@
 // The reduced row echelon form of rows, by elimination.
-ghost use lib.ListN.{length, getD};
+ghost use lib.ListN.{length};
 ghost use mathlib.Core.Path.{_≡_};
 ghost use Prim.Native.Nat.{ℕ, _<_, _≤_};
 ghost use Rattle.algebra.specs.Words.{word, cells, symbol-cells, Symbol-rows};

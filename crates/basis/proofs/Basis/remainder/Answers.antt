@@ -1,10 +1,10 @@
 use mathlib.Core.Path.{_≡_, sym, ap, ap₂, _∙_}
 use mathlib.Core.List.{[]}
-use Prim.Native.Nat.{ℕ, _<_, _≤_}
+use Prim.Native.Nat.{ℕ, _<_}
 use native.Mathlib.Omega.{arith}
 use lib.ListN.{length, getD}
-use Rattle.algebra.specs.Words.{word, cells, cut, Symbols}
-use Rattle.algebra.proofs.Totals.{sum-zero-right, product-zero}
+use Rattle.algebra.specs.Words.{word, cut}
+use Rattle.algebra.proofs.Totals.{product-zero}
 use Rattle.algebra.proofs.Symbols.{zero-symbol}
 use Rattle.algebra.proofs.Cells.{added-all, product-as-symbol}
 use Rattle.algebra.proofs.Cuts.{cut-symbols, cut-past, cut-everywhere}

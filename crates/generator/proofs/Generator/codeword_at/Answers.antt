@@ -1,4 +1,4 @@
-use mathlib.Core.Path.{_≡_, ap, ap₂, sym, _∙_}
+use mathlib.Core.Path.{ap₂, sym, _∙_}
 use Rattle.algebra.specs.Words.{word}
 use Rattle.algebra.proofs.Totals.{total-more}
 use Rattle.generator.specs.Parts.{rows-of}

@@ -1,7 +1,6 @@
 use mathlib.Core.Path.{_≡_, ap, ap₂, sym, subst, _∙_}
-use Prim.Native.Nat.{ℕ, _+_, _-_, _*_, _<_, _≤_}
+use Prim.Native.Nat.{_+_, _-_, _*_}
 use native.Mathlib.Omega.{arith}
-use lib.ListN.{getD}
 use Rattle.algebra.specs.Words.{word, total}
 use Rattle.algebra.specs.Checks.{index}
 use Rattle.algebra.proofs.Syndromes.{index-more}

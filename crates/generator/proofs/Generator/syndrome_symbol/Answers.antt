@@ -1,4 +1,4 @@
-use mathlib.Core.Path.{_≡_, ap₂, sym, _∙_}
+use mathlib.Core.Path.{ap₂, sym, _∙_}
 use lib.ListN.{getD}
 use Rattle.algebra.proofs.Totals.{total-more}
 use Rattle.generator.specs.Parts.{check-row-of}

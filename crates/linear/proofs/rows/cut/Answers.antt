@@ -1,10 +1,9 @@
-use mathlib.Core.Path.{_≡_, refl, sym, ap, _∙_}
+use mathlib.Core.Path.{refl, sym, ap, _∙_}
 use mathlib.Core.Logic.{inl, inr}
 use native.Mathlib.Omega.{arith}
-use lib.ListN.{getD}
 use Rattle.std.proofs.shelf.Lists.{length-set, getD-set-same, getD-set-other}
 use Rattle.std.proofs.shelf.Tests.{cases-eq, cases-lt}
-use Rattle.algebra.specs.Words.{word, symbol}
+use Rattle.algebra.specs.Words.{word}
 use Rattle.algebra.proofs.Cells.{zeros-at}
 use Rattle.algebra.proofs.Symbols.{one-times}
 use Rattle.algebra.proofs.Cuts.{cut-inside, cut-past}
