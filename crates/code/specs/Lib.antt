@@ -2,3 +2,4 @@ pub mod Refusals
 pub mod Drafts
 pub mod Codes
 pub mod Histories
+pub mod Views

@@ -51,6 +51,7 @@ impl<F: Field> Code<F> {
     pub fn encode(&self, message: &[u8], out: &mut [u8]) -> Result<(), Refusal>
         ensures told { λ r. ⌜ Message-encoded (F·Field .ops) (now (self .entry) .generator) (now (message .entry)) (length (now (out .entry))) (now (out .exit)) r ⌝ }
         ensures kept { λ r. ⌜ Cases r (λ _. Unit {0}) (λ _. now (out .exit) ≡ now (out .entry)) ⌝ }
+        ensures same { λ _. ⌜ now (self .exit) ≡ now (self .entry) ⌝ }
     {
         let k = self.generator.dimension();
         if message.len() != k {
@@ -71,6 +72,7 @@ impl<F: Field> Code<F> {
     pub fn reduced_row(&self, i: usize, out: &mut [u8]) -> Result<usize, Refusal>
         ensures told { λ r. ⌜ Reduced-read (F·Field .ops) (now (self .entry) .generator) i (length (now (out .entry))) (now (out .exit)) r ⌝ }
         ensures kept { λ r. ⌜ Cases r (λ _. Unit {0}) (λ _. now (out .exit) ≡ now (out .entry)) ⌝ }
+        ensures same { λ _. ⌜ now (self .exit) ≡ now (self .entry) ⌝ }
     {
         let n = self.generator.length();
         if out.len() != n {
@@ -90,6 +92,7 @@ impl<F: Field> Code<F> {
     pub fn check_row(&self, i: usize, out: &mut [u8]) -> Result<(), Refusal>
         ensures told { λ r. ⌜ Check-read (F·Field .ops) (now (self .entry) .generator) i (length (now (out .entry))) (now (out .exit)) r ⌝ }
         ensures kept { λ r. ⌜ Cases r (λ _. Unit {0}) (λ _. now (out .exit) ≡ now (out .entry)) ⌝ }
+        ensures same { λ _. ⌜ now (self .exit) ≡ now (self .entry) ⌝ }
     {
         let n = self.generator.length();
         if out.len() != n {

@@ -1,4 +1,7 @@
 // What the panel holds, and how it answers a command.
+ghost use mathlib.Core.Path.{_≡_};
+ghost use Rattle.code.specs.Views.{generator-of};
+ghost use Rattle.panel.specs.Replies.{count-reply, Sent, At-stage};
 use code::Code;
 use code::Draft;
 use code::Refusal;
@@ -15,14 +18,14 @@ use notation::command::Command;
 
 // A draft, and once it is sealed its code.
 #[derive(Drop)]
-pub enum Stage<F> {
+pub(crate) enum Stage<F> {
     Open(Draft<F>),
     Sealed(Code<F>),
 }
 
 // Nothing, until the field and the length are known.
 #[derive(Drop)]
-pub enum Panel {
+pub(crate) enum Panel {
     Fresh,
     Two(Stage<Two>),
     Three(Stage<Three>),
@@ -31,7 +34,7 @@ pub enum Panel {
 }
 
 #[derive(Clone, Copy, Debug, PartialEq)]
-pub enum Reply {
+pub(crate) enum Reply {
     Done,
     Number(usize),
     Word { symbols: [u8; 24], length: usize },
@@ -39,14 +42,18 @@ pub enum Reply {
     Unreadable,
 }
 
-fn counted(rows: Result<usize, Refusal>) -> Reply {
+fn counted(rows: Result<usize, Refusal>) -> Reply
+    ensures { λ r. ⌜ r ≡ count-reply rows ⌝ }
+{
     match rows {
         Ok(count) => Reply::Number(count),
         Err(refusal) => Reply::Refused(refusal.number()),
     }
 }
 
-fn send<F: Field>(code: &Code<F>, message: &[u8]) -> Reply {
+fn send<F: Field>(code: &Code<F>, message: &[u8]) -> Reply
+    ensures { λ r. ⌜ Sent (F·Field .ops) (generator-of (now (code .entry))) (now (message .entry)) r ⌝ }
+{
     let mut symbols = [0; 24];
     let length = code.length().min(24);
     match code.encode(message, &mut symbols[0..length]) {
@@ -56,7 +63,9 @@ fn send<F: Field>(code: &Code<F>, message: &[u8]) -> Reply {
 }
 
 // Answers a command at a draft or a code. One that is not for it is as unreadable.
-fn at_stage<F: Field>(stage: Stage<F>, command: &Command) -> (Stage<F>, Reply) {
+fn at_stage<F: Field>(stage: Stage<F>, command: &Command) -> (Stage<F>, Reply)
+    ensures { λ r. ⌜ At-stage (F·Field .ops) stage (now (command .entry)) (r .0) (r .1) ⌝ }
+{
     match stage {
         Stage::Open(mut draft) => match command {
             Command::Row(word) => {
@@ -118,7 +127,7 @@ fn choose(order: u8, length: usize) -> (Panel, Reply) {
 }
 
 // Answers a command.
-pub fn answer(panel: Panel, command: &Command) -> (Panel, Reply) {
+pub(crate) fn answer(panel: Panel, command: &Command) -> (Panel, Reply) {
     match panel {
         Panel::Fresh => match command {
             Command::Kind { order, length } => choose(*order, *length),
@@ -140,5 +149,82 @@ pub fn answer(panel: Panel, command: &Command) -> (Panel, Reply) {
             let (stage, reply) = at_stage(stage, command);
             (Panel::Sixteen(stage), reply)
         }
+    }
+}
+
+#[cfg(test)]
+mod tests {
+    use super::*;
+    use notation::command::read_command;
+    use std::test::*;
+
+    fn word(symbols: &[u8]) -> Reply {
+        let mut all = [0; 24];
+        let length = symbols.len().min(24);
+        for i in 0..length {
+            all[i] = symbols[i];
+        }
+        Reply::Word {
+            symbols: all,
+            length,
+        }
+    }
+
+    fn plays(lines: &[&str; 5], replies: &[Reply; 5]) -> Result<(), Fail> {
+        let mut panel = Panel::Fresh;
+        for i in 0..5 {
+            let (next, reply) = answer(panel, &read_command(lines[i].as_bytes()));
+            panel = next;
+            check_eq(reply, replies[i])?;
+        }
+        Ok(())
+    }
+
+    #[test]
+    fn three() -> Result<(), Fail> {
+        let lines = ["kind 3 4", "row 1011", "row 0112", "seal", "send 12"];
+        let codeword = word(&[1, 2, 0, 2]);
+        plays(
+            &lines,
+            &[
+                Reply::Done,
+                Reply::Number(1),
+                Reply::Number(2),
+                Reply::Number(2),
+                codeword,
+            ],
+        )
+    }
+
+    #[test]
+    fn four() -> Result<(), Fail> {
+        let lines = ["kind 4 3", "row 102", "row 231", "seal", "send 31"];
+        let codeword = word(&[3, 1, 2]);
+        plays(
+            &lines,
+            &[
+                Reply::Done,
+                Reply::Number(1),
+                Reply::Number(2),
+                Reply::Number(2),
+                codeword,
+            ],
+        )
+    }
+
+    #[test]
+    fn sixteen() -> Result<(), Fail> {
+        let lines = ["kind 16 2", "row 21", "row 19", "seal", "send f"];
+        let codeword = word(&[15, 14]);
+        plays(
+            &lines,
+            &[
+                Reply::Done,
+                Reply::Number(1),
+                Reply::Refused(6),
+                Reply::Number(1),
+                codeword,
+            ],
+        )
     }
 }

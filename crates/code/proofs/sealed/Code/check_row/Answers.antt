@@ -15,6 +15,7 @@ returns-in-rest g c =
     record {
       told = inr ((λ n. n room), inl (omega arith, refl, ap₂ (λ a b. Some (a - b)) (c .length-n .ensures) (c .dimension .ensures)));
       kept = refl;
+      same = refl;
     }
 
 pub returns : need.returns
@@ -33,4 +34,5 @@ returns g c =
         ),
       );
       kept = tt;
+      same = refl;
     }

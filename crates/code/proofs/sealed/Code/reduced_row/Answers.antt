@@ -1,4 +1,4 @@
-use mathlib.Core.Path.{_≡_, sym, _∙_}
+use mathlib.Core.Path.{_≡_, refl, sym, _∙_}
 use mathlib.Core.Logic.{inl, inr}
 use Prim.Native.Nat.{_<_}
 use native.Mathlib.Omega.{arith}
@@ -30,4 +30,5 @@ returns g c =
         ),
       );
       kept = tt;
+      same = refl;
     }

@@ -1,0 +1,13 @@
+-- What the drafts and codes of every field are made of.
+use Rattle.basis.specs.declared.Basis.{Basis}
+use Rattle.generator.specs.declared.Generator.{Generator}
+use Rattle.code.specs.declared.draft.Draft.{Draft}
+use Rattle.code.specs.declared.sealed.Code.{Code}
+
+-- the basis that a draft keeps for its rows
+abbrev pub basis-of : {F : Type 0} → Draft F → Basis
+basis-of d = d .basis
+
+-- the generator of a code
+abbrev pub generator-of : {F : Type 0} → Code F → Generator
+generator-of c = c .generator
