@@ -1,6 +1,6 @@
 -- What the panel replies to a command, and what it holds then.
 use mathlib.Core.Path.{_≡_}
-use mathlib.Core.List.{List}
+use mathlib.Core.List.{List, []}
 use Prim.Native.Nat.{ℕ}
 use lib.ListN.{take}
 use Rattle.std.specs.declared.result.Result.{Result}
@@ -13,11 +13,19 @@ use Rattle.code.specs.declared.sealed.Code.{Code}
 use Rattle.code.specs.declared.refusal.Refusal.{Refusal}
 use Rattle.code.specs.Views.{basis-of, generator-of}
 use Rattle.code.specs.Refusals.{number}
-use Rattle.code.specs.Drafts.{State, Holds, Row-pushed, Row-popped, after-push, after-pop, Turns}
+use Rattle.code.specs.Drafts.{State, fresh, Holds, Length-set, Row-pushed, Row-popped, after-push, after-pop, Turns}
 use Rattle.code.specs.Codes.{Sealed, Message-encoded}
 use Rattle.notation.specs.declared.command.Command.{Command}
 use Rattle.notation.specs.declared.command.Command.the-variants.{Kind, Row, Back, Seal, Send, Unreadable}
 use Rattle.notation.specs.Views.{letters}
+use Rattle.field.specs.declared.prime.Two.{Two}
+use Rattle.field.specs.declared.prime.Three.{Three}
+use Rattle.field.specs.declared.binary.Four.{Four}
+use Rattle.field.specs.declared.binary.Sixteen.{Sixteen}
+use Rattle.field.specs.Remainders.{remainders}
+use Rattle.field.specs.Polynomials.{polynomials}
+use Rattle.panel.specs.declared.session.Panel.{Panel}
+use Rattle.panel.specs.declared.session.Panel.the-variants as panel
 use Rattle.panel.specs.declared.session.Stage.{Stage}
 use Rattle.panel.specs.declared.session.Stage.the-variants as stage
 use Rattle.panel.specs.declared.session.Reply.{Reply}
@@ -65,3 +73,40 @@ At-code f c Unreadable t r = Passed (stage.Sealed c) t r
 abbrev pub At-stage : {F : Type 0} → Ops → Stage F → Command → Stage F → Reply → Type 0
 At-stage f (stage.Open d) command t r = At-draft f d command t r
 At-stage f (stage.Sealed c) command t r = At-code f c command t r
+
+-- the draft of length n with which the panel begins, or why there is none
+abbrev pub Opened : {F : Type 0} → Ops → ℕ → Result (Stage F) Refusal → Type 0
+Opened {F} f n (Ok t) = (d : Draft F) × (t ≡ stage.Open d) × Length-set fresh n (Ok tt) × Holds f (basis-of d) record { size = n; rows = [] }
+Opened f n (Err e) = Length-set fresh n (Err e)
+
+-- the panel and its reply then
+abbrev pub Begins : {F : Type 0} → (Stage F → Panel) → Result (Stage F) Refusal → Panel → Reply → Type 0
+Begins holding (Ok t) p r = (p ≡ holding t) × (r ≡ reply.Done)
+Begins holding (Err e) p r = (p ≡ panel.Fresh) × (r ≡ reply.Refused (number e))
+
+abbrev pub Opens : {F : Type 0} → Ops → ℕ → (Stage F → Panel) → Panel → Reply → Type 0
+Opens {F} f n holding p r = (a : Result (Stage F) Refusal) × Opened f n a × Begins holding a p r
+
+-- a command that is not for a fresh panel changes nothing
+abbrev pub Ignored : Panel → Reply → Type 0
+Ignored p r = (p ≡ panel.Fresh) × (r ≡ reply.Unreadable)
+
+-- the field of q symbols is chosen, and the length n
+abbrev pub Chosen : ℕ → ℕ → Panel → Reply → Type 0
+Chosen q n p r =
+    (q ≡ 2 → Opens (remainders 2) n panel.Two p r) × (q ≡ 3 → Opens (remainders 3) n panel.Three p r)
+    × (q ≡ 4 → Opens (polynomials 2 3) n panel.Four p r) × (q ≡ 16 → Opens (polynomials 4 3) n panel.Sixteen p r)
+    × ((q ≡ 2 → ⊥) → (q ≡ 3 → ⊥) → (q ≡ 4 → ⊥) → (q ≡ 16 → ⊥) → Ignored p r)
+
+-- A command at the panel p, which then is q: it chooses a field first, and goes to the draft or the code of that field from then on.
+abbrev pub Answered : Panel → Command → Panel → Reply → Type 0
+Answered panel.Fresh (Kind q n) p r = Chosen q n p r
+Answered panel.Fresh (Row w) p r = Ignored p r
+Answered panel.Fresh Back p r = Ignored p r
+Answered panel.Fresh Seal p r = Ignored p r
+Answered panel.Fresh (Send w) p r = Ignored p r
+Answered panel.Fresh Unreadable p r = Ignored p r
+Answered (panel.Two s) command p r = (t : Stage Two) × (p ≡ panel.Two t) × At-stage (remainders 2) s command t r
+Answered (panel.Three s) command p r = (t : Stage Three) × (p ≡ panel.Three t) × At-stage (remainders 3) s command t r
+Answered (panel.Four s) command p r = (t : Stage Four) × (p ≡ panel.Four t) × At-stage (polynomials 2 3) s command t r
+Answered (panel.Sixteen s) command p r = (t : Stage Sixteen) × (p ≡ panel.Sixteen t) × At-stage (polynomials 4 3) s command t r

@@ -1,7 +1,7 @@
 // What the panel holds, and how it answers a command.
 ghost use mathlib.Core.Path.{_≡_};
 ghost use Rattle.code.specs.Views.{generator-of};
-ghost use Rattle.panel.specs.Replies.{count-reply, Sent, At-stage};
+ghost use Rattle.panel.specs.Replies.{count-reply, Sent, At-stage, Opened, Chosen, Answered};
 use code::Code;
 use code::Draft;
 use code::Refusal;
@@ -33,7 +33,7 @@ pub(crate) enum Panel {
     Sixteen(Stage<Sixteen>),
 }
 
-#[derive(Clone, Copy, Debug, PartialEq)]
+#[derive(Clone, Copy)]
 pub(crate) enum Reply {
     Done,
     Number(usize),
@@ -94,40 +94,44 @@ fn at_stage<F: Field>(stage: Stage<F>, command: &Command) -> (Stage<F>, Reply)
 }
 
 // A draft of the length wanted, or why there is none.
-fn open<F: Field>(length: usize) -> Result<Stage<F>, Refusal> {
+fn open<F: Field>(length: usize) -> Result<Stage<F>, Refusal>
+    ensures { λ r. ⌜ Opened (F·Field .ops) length r ⌝ }
+{
     let mut draft = Draft::new();
-    draft.set_length(length)?;
-    Ok(Stage::Open(draft))
+    match draft.set_length(length) {
+        Ok(()) => Ok(Stage::Open(draft)),
+        Err(refusal) => Err(refusal),
+    }
 }
 
-fn choose(order: u8, length: usize) -> (Panel, Reply) {
-    let opened = match order {
+fn choose(order: u8, length: usize) -> (Panel, Reply)
+    ensures { λ r. ⌜ Chosen order length (r .0) (r .1) ⌝ }
+{
+    match order {
         2 => match open::<Two>(length) {
-            Ok(stage) => Ok(Panel::Two(stage)),
-            Err(refusal) => Err(refusal),
+            Ok(stage) => (Panel::Two(stage), Reply::Done),
+            Err(refusal) => (Panel::Fresh, Reply::Refused(refusal.number())),
         },
         3 => match open::<Three>(length) {
-            Ok(stage) => Ok(Panel::Three(stage)),
-            Err(refusal) => Err(refusal),
+            Ok(stage) => (Panel::Three(stage), Reply::Done),
+            Err(refusal) => (Panel::Fresh, Reply::Refused(refusal.number())),
         },
         4 => match open::<Four>(length) {
-            Ok(stage) => Ok(Panel::Four(stage)),
-            Err(refusal) => Err(refusal),
+            Ok(stage) => (Panel::Four(stage), Reply::Done),
+            Err(refusal) => (Panel::Fresh, Reply::Refused(refusal.number())),
         },
         16 => match open::<Sixteen>(length) {
-            Ok(stage) => Ok(Panel::Sixteen(stage)),
-            Err(refusal) => Err(refusal),
+            Ok(stage) => (Panel::Sixteen(stage), Reply::Done),
+            Err(refusal) => (Panel::Fresh, Reply::Refused(refusal.number())),
         },
-        _ => return (Panel::Fresh, Reply::Unreadable),
-    };
-    match opened {
-        Ok(panel) => (panel, Reply::Done),
-        Err(refusal) => (Panel::Fresh, Reply::Refused(refusal.number())),
+        _ => (Panel::Fresh, Reply::Unreadable),
     }
 }
 
 // Answers a command.
-pub(crate) fn answer(panel: Panel, command: &Command) -> (Panel, Reply) {
+pub(crate) fn answer(panel: Panel, command: &Command) -> (Panel, Reply)
+    ensures { λ r. ⌜ Answered panel (now (command .entry)) (r .0) (r .1) ⌝ }
+{
     match panel {
         Panel::Fresh => match command {
             Command::Kind { order, length } => choose(*order, *length),
@@ -149,82 +153,5 @@ pub(crate) fn answer(panel: Panel, command: &Command) -> (Panel, Reply) {
             let (stage, reply) = at_stage(stage, command);
             (Panel::Sixteen(stage), reply)
         }
-    }
-}
-
-#[cfg(test)]
-mod tests {
-    use super::*;
-    use notation::command::read_command;
-    use std::test::*;
-
-    fn word(symbols: &[u8]) -> Reply {
-        let mut all = [0; 24];
-        let length = symbols.len().min(24);
-        for i in 0..length {
-            all[i] = symbols[i];
-        }
-        Reply::Word {
-            symbols: all,
-            length,
-        }
-    }
-
-    fn plays(lines: &[&str; 5], replies: &[Reply; 5]) -> Result<(), Fail> {
-        let mut panel = Panel::Fresh;
-        for i in 0..5 {
-            let (next, reply) = answer(panel, &read_command(lines[i].as_bytes()));
-            panel = next;
-            check_eq(reply, replies[i])?;
-        }
-        Ok(())
-    }
-
-    #[test]
-    fn three() -> Result<(), Fail> {
-        let lines = ["kind 3 4", "row 1011", "row 0112", "seal", "send 12"];
-        let codeword = word(&[1, 2, 0, 2]);
-        plays(
-            &lines,
-            &[
-                Reply::Done,
-                Reply::Number(1),
-                Reply::Number(2),
-                Reply::Number(2),
-                codeword,
-            ],
-        )
-    }
-
-    #[test]
-    fn four() -> Result<(), Fail> {
-        let lines = ["kind 4 3", "row 102", "row 231", "seal", "send 31"];
-        let codeword = word(&[3, 1, 2]);
-        plays(
-            &lines,
-            &[
-                Reply::Done,
-                Reply::Number(1),
-                Reply::Number(2),
-                Reply::Number(2),
-                codeword,
-            ],
-        )
-    }
-
-    #[test]
-    fn sixteen() -> Result<(), Fail> {
-        let lines = ["kind 16 2", "row 21", "row 19", "seal", "send f"];
-        let codeword = word(&[15, 14]);
-        plays(
-            &lines,
-            &[
-                Reply::Done,
-                Reply::Number(1),
-                Reply::Refused(6),
-                Reply::Number(1),
-                codeword,
-            ],
-        )
     }
 }
