@@ -2,7 +2,7 @@
 use mathlib.Core.Path.{_≡_}
 use Prim.Native.Nat.{ℕ, _+_, _<_, _≤_}
 use Rattle.field.specs.Field.{Ops}
-use Rattle.algebra.specs.Words.{Symbols, Symbol-rows, Span, Same-span}
+use Rattle.algebra.specs.Words.{Symbols, Symbol-rows, plus, Span, Same-span}
 use Rattle.algebra.specs.Reduced.{Reduced-form}
 
 -- the rows i and j have changed places
@@ -52,5 +52,5 @@ pub record Remainder (f : Ops) (rs : ℕ → ℕ → ℕ) (at w v : ℕ → ℕ)
   pub symbols : Symbols f v
   pub taken : ℕ → ℕ
   pub spanned : Span f i rs taken
-  pub is : (k : ℕ) → v k ≡ f .sum (w k) (taken k)
+  pub is : (k : ℕ) → v k ≡ plus f w taken k
   pub zeros : (j : ℕ) → j < i → v (at j) ≡ 0
