@@ -73,26 +73,6 @@ fn unit_rows() -> Result<(), Fail> {
 }
 
 #[test]
-fn zeros() -> Result<(), Fail> {
-    let mut draft = Draft::<Three>::new();
-    draft.set_length(3)?;
-    let answer = draft.push_row(&[0, 0, 0]);
-    check_eq(answer, Err(Refusal::Dependent(0)))?;
-    check_eq(draft.count(), 0)
-}
-
-#[test]
-fn loaded_again() -> Result<(), Fail> {
-    let mut draft = drafted::<Three, 3>(&[[0, 2, 1]])?;
-    check_eq(draft.pop_row(), Ok(0))?;
-    check_eq(draft.push_row(&[0, 2, 1]), Ok(1))?;
-    let answer = draft.push_row(&[0, 1, 2]);
-    check_eq(answer, Err(Refusal::Dependent(1)))?;
-    let code = draft.seal();
-    check_eq(reduced_row(&code, 0), Ok(([0, 1, 2], 1)))
-}
-
-#[test]
 fn dependent_on_the_row_withdrawn() -> Result<(), Fail> {
     let mut draft = drafted::<Three, 4>(&[[1, 0, 1, 1], [0, 1, 1, 2]])?;
     let dependent = Err(Refusal::Dependent(2));

@@ -5,7 +5,7 @@ use code::Refusal;
 use field::Field;
 
 // A draft of the length of these rows that holds them.
-pub fn drafted<F: Field, const N: usize>(rows: &[[u8; N]]) -> Result<Draft<F>, Refusal> {
+pub(crate) fn drafted<F: Field, const N: usize>(rows: &[[u8; N]]) -> Result<Draft<F>, Refusal> {
     let mut draft = Draft::new();
     draft.set_length(N)?;
     for row in rows {
@@ -15,14 +15,14 @@ pub fn drafted<F: Field, const N: usize>(rows: &[[u8; N]]) -> Result<Draft<F>, R
 }
 
 // The check row i.
-pub fn check_row<F: Field, const N: usize>(code: &Code<F>, i: usize) -> Result<[u8; N], Refusal> {
+pub(crate) fn check_row<F: Field, const N: usize>(code: &Code<F>, i: usize) -> Result<[u8; N], Refusal> {
     let mut out = [255; N];
     code.check_row(i, &mut out)?;
     Ok(out)
 }
 
 // The reduced row i, and its information place.
-pub fn reduced_row<F: Field, const N: usize>(
+pub(crate) fn reduced_row<F: Field, const N: usize>(
     code: &Code<F>,
     i: usize,
 ) -> Result<([u8; N], usize), Refusal> {
@@ -32,7 +32,7 @@ pub fn reduced_row<F: Field, const N: usize>(
 }
 
 // The codeword of a message.
-pub fn codeword<F: Field, const N: usize>(
+pub(crate) fn codeword<F: Field, const N: usize>(
     code: &Code<F>,
     message: &[u8],
 ) -> Result<[u8; N], Refusal> {

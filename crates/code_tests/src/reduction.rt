@@ -1,5 +1,4 @@
-// Elimination, bases, and the syndromes of a generator.
-use basis::Basis;
+// Elimination, and the syndromes of a generator.
 use field::Three;
 use field::ThreeField;
 use generator::Generator;
@@ -20,18 +19,6 @@ fn no_symbols_count_as_zero() -> Result<(), Fail> {
     reduced[0][0..4].copy_from_slice(&[1, 0, 0, 2]);
     reduced[1][0..4].copy_from_slice(&[0, 0, 1, 2]);
     check_eq(rows, reduced)
-}
-
-#[test]
-fn a_basis_takes_symbols_of_its_length() -> Result<(), Fail> {
-    let mut basis = Basis::empty(2);
-    check(!basis.extend::<Three>(&[0, 0, 1]))?;
-    check(basis.extend::<Three>(&[0, 2, 1]))?;
-    check(!basis.extend::<Three>(&[3, 1]))?;
-    check(basis.extend::<Three>(&[1]))?;
-    check_eq(basis.count(), 2)?;
-    check(basis.shorten())?;
-    check_eq(basis.count(), 1)
 }
 
 // The generator of the rows 1011 and 0112 over the field of 3.
