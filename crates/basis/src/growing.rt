@@ -1,7 +1,7 @@
 // A row more, and a row less.
 ghost use lib.ListN.{length, getD};
 ghost use mathlib.Core.Path.{_≡_};
-ghost use Prim.Native.Nat.{ℕ, _+_, _-_, _<_, _≤_, min};
+ghost use Prim.Native.Nat.{ℕ, _<_, _≤_, min};
 ghost use Rattle.algebra.specs.Words as Words;
 ghost use Rattle.algebra.specs.Elimination.{Remainder};
 ghost use Rattle.basis.specs.Parts.{size, count, rows-of, pivots-of, Offered, Shortened};
@@ -55,7 +55,7 @@ impl Basis {
 
 // The first place at which a word is not 0.
 fn first_nonzero(word: &[u8]) -> Option<usize>
-    ensures { λ r. ⌜ BySome r ((k : ℕ) → getD (now (word .entry)) k 0 ≡ 0) (λ p. (p < length (now (word .entry))) × (getD (now (word .entry)) p 0 ≡ 0 → ⊥)) ⌝ }
+    ensures { λ r. ⌜ BySome r ((k : ℕ) → getD (now (word .entry)) k 0 ≡ 0) (λ p. (p < length (now (word .entry))) × (getD (now (word .entry)) p 0 ≡ 0 → ⊥) × ((k : ℕ) → k < p → getD (now (word .entry)) k 0 ≡ 0)) ⌝ }
 {
     for (p, x) in word.iter().enumerate() {
         if *x != 0 {

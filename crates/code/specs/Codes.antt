@@ -57,7 +57,7 @@ Reduced-read f g i room out =
     (accepted (λ p. (p ≡ places-of g i) × ((k : ℕ) → word out k ≡ rows-of f g i k))))
 
 -- `out` is check row i of a code: 1 at check place i, at the information place of reduced row j the negative of
--- that row's symbol there, and 0 at every other place.
+-- that row's symbol at check place i, and 0 at every other place.
 pub record Check-row (f : Ops) (g : Generator) (i : ℕ) (out : List ℕ) : Type 0 where
   pub is : (k : ℕ) → k < size g → word out k ≡ check-row-of f g (check-place-of g i) k
   pub own : word out (check-place-of g i) ≡ 1

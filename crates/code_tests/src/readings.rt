@@ -15,7 +15,10 @@ pub(crate) fn drafted<F: Field, const N: usize>(rows: &[[u8; N]]) -> Result<Draf
 }
 
 // The check row i.
-pub(crate) fn check_row<F: Field, const N: usize>(code: &Code<F>, i: usize) -> Result<[u8; N], Refusal> {
+pub(crate) fn check_row<F: Field, const N: usize>(
+    code: &Code<F>,
+    i: usize,
+) -> Result<[u8; N], Refusal> {
     let mut out = [255; N];
     code.check_row(i, &mut out)?;
     Ok(out)
