@@ -1,7 +1,5 @@
 // Drafts, codes and what they are made of, on examples.
 #[cfg(test)]
-mod drafts;
-#[cfg(test)]
 mod edges;
 #[cfg(test)]
 mod examples;

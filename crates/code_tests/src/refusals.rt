@@ -40,6 +40,16 @@ fn several_causes_at_a_draft() -> Result<(), Fail> {
 }
 
 #[test]
+fn rows_held_and_rows_withdrawn() -> Result<(), Fail> {
+    let mut draft = drafted::<Three, 2>(&[[0, 2]])?;
+    check_eq(draft.set_length(3), Err(Refusal::RowsHeld(1)))?;
+    check_eq(draft.pop_row(), Ok(0))?;
+    check_eq(draft.pop_row(), Err(Refusal::NoRow))?;
+    check_eq(draft.length(), 2)?;
+    check_eq(draft.set_length(3), Ok(()))
+}
+
+#[test]
 fn several_causes_at_a_code() -> Result<(), Fail> {
     let code = drafted::<Three, 4>(&[[1, 0, 1, 1]])?.seal();
     let mut short = [7; 3];
