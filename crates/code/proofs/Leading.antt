@@ -13,7 +13,7 @@ use Rattle.std.proofs.shelf.Tests.{cases-eq, cases-lt}
 use Rattle.field.specs.Field.{Ops}
 use Rattle.algebra.specs.Words.{word, Dependent}
 use Rattle.basis.specs.declared.Basis.{Basis}
-use Rattle.code.specs.declared.refusal.Refusal.{Refusal}
+use Rattle.refusal.specs.declared.Refusal.{Refusal}
 use Rattle.code.specs.Drafts.{State, Holds, First-none, Length-set, Row-pushed, Row-popped, after-length, after-push, after-pop, Turns}
 use Rattle.code.specs.Histories.{Call, set-length, push-row, pop-row, Fits, Says-dependent, Moves, Leads, Held, Follows, Goes-on, Tells-dependence}
 

@@ -10,9 +10,9 @@ use Rattle.algebra.specs.Words.{word, cells, combination, Span, Independent}
 use Rattle.algebra.specs.Reduced.{Reduced-form, Only-form, First-place}
 use Rattle.generator.specs.declared.Generator.{Generator}
 use Rattle.generator.specs.Parts.{size, dimension, rows-of, places-of, check-place-of, check-row-of}
-use Rattle.code.specs.declared.refusal.Refusal.{Refusal}
+use Rattle.refusal.specs.declared.Refusal.{Refusal}
 use Rattle.code.specs.Drafts.{State, First-none}
-use Rattle.code.specs.Refusals.{accepted, refused-if, refused-at}
+use Rattle.refusal.specs.Refusals.{accepted, refused-if, refused-at}
 
 -- The code that a draft of some length and rows is sealed to: it has that length, as many reduced
 -- rows as there are rows held, and these are their one reduced row echelon form. The rows held are

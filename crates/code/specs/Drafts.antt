@@ -11,8 +11,8 @@ use Rattle.field.specs.Field.{Ops}
 use Rattle.algebra.specs.Words.{word, cells, Symbol-rows, Same-span, Dependent}
 use Rattle.basis.specs.declared.Basis.{Basis}
 use Rattle.basis.specs.Parts as Bases
-use Rattle.code.specs.declared.refusal.Refusal.{Refusal}
-use Rattle.code.specs.Refusals.{accepted, refused-if, refused-at}
+use Rattle.refusal.specs.declared.Refusal.{Refusal}
+use Rattle.refusal.specs.Refusals.{accepted, refused-if, refused-at}
 
 -- a length, and the rows held, in the order in which they were loaded
 pub record State : Type 0 where

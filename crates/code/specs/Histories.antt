@@ -9,8 +9,8 @@ use Rattle.std.specs.declared.result.Result.the-variants.{Ok, Err}
 use Rattle.field.specs.Field.{Ops}
 use Rattle.algebra.specs.Words.{word, Dependent}
 use Rattle.basis.specs.declared.Basis.{Basis}
-use Rattle.code.specs.declared.refusal.Refusal.{Refusal}
-use Rattle.code.specs.Refusals.{number}
+use Rattle.refusal.specs.declared.Refusal.{Refusal}
+use Rattle.refusal.specs.Refusals.{number}
 use Rattle.code.specs.Drafts.{State, fresh, Holds}
 
 -- a call on a draft

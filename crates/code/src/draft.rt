@@ -8,9 +8,9 @@ ghost use Rattle.std.specs.Results.{Cases};
 ghost use Rattle.algebra.specs.Words.{cells, Independent};
 ghost use Rattle.code.specs.Drafts.{State, fresh, Holds, First-none, Length-set, Row-pushed, Row-popped, after-length, after-push, after-pop, Turns};
 ghost use Rattle.code.specs.Histories.{set-length, push-row, pop-row, Follows, Goes-on, Tells-dependence};
-use crate::refusal::Refusal;
 use basis::Basis;
 use field::Field;
+use refusal::Refusal;
 use std::marker::PhantomData;
 
 // Only the span of the rows matters to every call, so the basis that they make is kept in their place.

@@ -9,9 +9,9 @@ ghost use Rattle.code.specs.Histories.{Call, Held, Follows};
 ghost use Rattle.code.specs.Codes.{Sealed, Message-encoded, Reduced-read, Check-read};
 use crate::draft::Draft;
 use crate::draft::first_no_symbol;
-use crate::refusal::Refusal;
 use field::Field;
 use generator::Generator;
+use refusal::Refusal;
 use std::marker::PhantomData;
 
 #[derive(Drop)]

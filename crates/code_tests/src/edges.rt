@@ -4,15 +4,15 @@ use crate::readings::codeword;
 use crate::readings::drafted;
 use crate::readings::reduced_row;
 use code::Draft;
-use code::Refusal;
-use code::refusal::RefusalDebug;
-use code::refusal::RefusalPartialEq;
 use field::Four;
 use field::FourField;
 use field::Sixteen;
 use field::SixteenField;
 use field::Three;
 use field::ThreeField;
+use refusal::Refusal;
+use refusal::RefusalDebug;
+use refusal::RefusalPartialEq;
 use std::test::*;
 
 #[test]

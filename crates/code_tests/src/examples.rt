@@ -4,9 +4,6 @@ use crate::readings::codeword;
 use crate::readings::drafted;
 use crate::readings::reduced_row;
 use code::Draft;
-use code::Refusal;
-use code::refusal::RefusalDebug;
-use code::refusal::RefusalPartialEq;
 use field::Four;
 use field::FourField;
 use field::Sixteen;
@@ -15,6 +12,9 @@ use field::Three;
 use field::ThreeField;
 use field::Two;
 use field::TwoField;
+use refusal::Refusal;
+use refusal::RefusalDebug;
+use refusal::RefusalPartialEq;
 use std::test::*;
 
 #[test]

@@ -1,8 +1,8 @@
 // Codes made of rows, and what is read of them, as values that a test can compare.
 use code::Code;
 use code::Draft;
-use code::Refusal;
 use field::Field;
+use refusal::Refusal;
 
 // A draft of the length of these rows that holds them.
 pub(crate) fn drafted<F: Field, const N: usize>(rows: &[[u8; N]]) -> Result<Draft<F>, Refusal> {

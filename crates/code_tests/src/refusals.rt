@@ -1,10 +1,10 @@
 // The numbers and the values of refusals, and which is told where there are several causes.
 use crate::readings::drafted;
-use code::Refusal;
-use code::refusal::RefusalDebug;
-use code::refusal::RefusalPartialEq;
 use field::Three;
 use field::ThreeField;
+use refusal::Refusal;
+use refusal::RefusalDebug;
+use refusal::RefusalPartialEq;
 use std::test::*;
 
 #[test]
@@ -18,6 +18,8 @@ fn numbers_and_values() -> Result<(), Fail> {
         (Refusal::NoRow, 7, None),
         (Refusal::BufferLength(5), 10, Some(5)),
         (Refusal::Index(3), 11, Some(3)),
+        (Refusal::SpanBytes(6), 16, Some(6)),
+        (Refusal::SpanPair(0), 17, Some(0)),
     ];
     for (refusal, number, value) in all {
         check_eq(refusal.number(), number)?;

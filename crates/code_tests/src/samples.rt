@@ -4,8 +4,6 @@ use crate::readings::codeword;
 use crate::readings::reduced_row;
 use code::Code;
 use code::Draft;
-use code::refusal::RefusalDebug;
-use code::refusal::RefusalPartialEq;
 use field::Field;
 use field::Four;
 use field::FourField;
@@ -15,6 +13,8 @@ use field::Three;
 use field::ThreeField;
 use field::Two;
 use field::TwoField;
+use refusal::RefusalDebug;
+use refusal::RefusalPartialEq;
 use std::test::*;
 
 // Numbers that look random, the same at each run.

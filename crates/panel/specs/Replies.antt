@@ -10,9 +10,9 @@ use Rattle.generator.specs.declared.Generator.{Generator}
 use Rattle.generator.specs.Parts.{size, dimension}
 use Rattle.code.specs.declared.draft.Draft.{Draft}
 use Rattle.code.specs.declared.sealed.Code.{Code}
-use Rattle.code.specs.declared.refusal.Refusal.{Refusal}
+use Rattle.refusal.specs.declared.Refusal.{Refusal}
 use Rattle.code.specs.Views.{basis-of, generator-of}
-use Rattle.code.specs.Refusals.{number}
+use Rattle.refusal.specs.Refusals.{number}
 use Rattle.code.specs.Drafts.{State, fresh, Holds, Length-set, Row-pushed, Row-popped, after-push, after-pop, Turns}
 use Rattle.code.specs.Codes.{Sealed, Message-encoded}
 use Rattle.notation.specs.declared.command.Command.{Command}

@@ -4,7 +4,6 @@ ghost use Rattle.code.specs.Views.{generator-of};
 ghost use Rattle.panel.specs.Replies.{count-reply, Sent, At-stage, Opened, Chosen, Answered};
 use code::Code;
 use code::Draft;
-use code::Refusal;
 use field::Field;
 use field::Four;
 use field::FourField;
@@ -15,6 +14,7 @@ use field::ThreeField;
 use field::Two;
 use field::TwoField;
 use notation::command::Command;
+use refusal::Refusal;
 
 // A draft, and once it is sealed its code.
 #[derive(Drop)]

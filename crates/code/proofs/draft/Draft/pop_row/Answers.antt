@@ -6,7 +6,7 @@ use lib.ListN.{length}
 use Rattle.std.specs.declared.result.Result.the-variants.{Ok, Err}
 use Rattle.std.proofs.shelf.Lists.{nil-from-length}
 use Rattle.basis.specs.declared.Basis.{Basis}
-use Rattle.code.specs.declared.refusal.Refusal.the-variants.{NoRow}
+use Rattle.refusal.specs.declared.Refusal.the-variants.{NoRow}
 use Rattle.code.specs.Drafts.{Holds, Row-popped, after-pop, Turns}
 use Rattle.code.proofs.Holding.{holds-pop}
 use Rattle.code.proofs.Leading.{pop-goes-on}

@@ -9,8 +9,8 @@ use Rattle.std.specs.declared.result.Result.the-variants.{Ok, Err}
 use Rattle.std.specs.declared.option.Option.the-variants.{Some}
 use Rattle.basis.specs.declared.Basis.{Basis}
 use Rattle.basis.specs.Parts as Bases
-use Rattle.code.specs.declared.refusal.Refusal.{Refusal}
-use Rattle.code.specs.declared.refusal.Refusal.the-variants.{WrongLength, NoSymbol, Dependent}
+use Rattle.refusal.specs.declared.Refusal.{Refusal}
+use Rattle.refusal.specs.declared.Refusal.the-variants.{WrongLength, NoSymbol, Dependent}
 use Rattle.code.specs.Drafts.{Holds, Row-pushed, after-push, Turns}
 use Rattle.code.proofs.Holding.{dependent-from, dependent-to, holds-push}
 use Rattle.code.proofs.Leading.{push-goes-on, tells-dependence}

@@ -1,7 +1,7 @@
 use mathlib.Core.Path.{refl}
 use Rattle.std.specs.declared.result.Result.the-variants.{Ok, Err}
 use borrow.Author.Needs.{needs}
-use Rattle.code.specs.declared.refusal.Refusal.the-variants.{Length, RowsHeld}
+use Rattle.refusal.specs.declared.Refusal.the-variants.{Length, RowsHeld}
 use Rattle.code.specs.Drafts.{Length-set, after-length, Turns}
 use Rattle.code.proofs.Leading.{length-goes-on}
 use Rattle.code.proofs.draft.Draft.set_length.Needs as need

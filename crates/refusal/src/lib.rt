@@ -1,6 +1,6 @@
-// Why a call is turned away.
+// Why a call is turned away: every cause, with its number and the value that is returned.
 ghost use mathlib.Core.Path.{_≡_};
-ghost use Rattle.code.specs.Refusals.{number, value};
+ghost use Rattle.refusal.specs.Refusals.{number, value};
 
 // Each case holds the value that is returned with it, where there is one.
 #[derive(Clone, Copy, Debug, PartialEq, Eq)]
@@ -21,6 +21,10 @@ pub enum Refusal {
     BufferLength(usize),
     // The index is not below the count, which is this.
     Index(usize),
+    // A list of spans has more than 32 bytes, or their number, which is this, is no multiple of 4.
+    SpanBytes(usize),
+    // In a list of spans this pair, the first such, is against its rule.
+    SpanPair(usize),
 }
 
 impl Refusal {
@@ -37,6 +41,8 @@ impl Refusal {
             Refusal::NoRow => 7,
             Refusal::BufferLength(_) => 10,
             Refusal::Index(_) => 11,
+            Refusal::SpanBytes(_) => 16,
+            Refusal::SpanPair(_) => 17,
         }
     }
 
@@ -53,6 +59,8 @@ impl Refusal {
             Refusal::NoRow => None,
             Refusal::BufferLength(n) => Some(*n),
             Refusal::Index(k) => Some(*k),
+            Refusal::SpanBytes(count) => Some(*count),
+            Refusal::SpanPair(k) => Some(*k),
         }
     }
 }

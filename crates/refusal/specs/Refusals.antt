@@ -6,8 +6,8 @@ use Rattle.std.specs.declared.option.Option.{Option}
 use Rattle.std.specs.declared.option.Option.the-variants.{Some, None}
 use Rattle.std.specs.declared.result.Result.{Result}
 use Rattle.std.specs.declared.result.Result.the-variants.{Ok, Err}
-use Rattle.code.specs.declared.refusal.Refusal.{Refusal}
-use Rattle.code.specs.declared.refusal.Refusal.the-variants.{Length, RowsHeld, WrongLength, NoSymbol, Dependent, NoRow, BufferLength, Index}
+use Rattle.refusal.specs.declared.Refusal.{Refusal}
+use Rattle.refusal.specs.declared.Refusal.the-variants.{Length, RowsHeld, WrongLength, NoSymbol, Dependent, NoRow, BufferLength, Index, SpanBytes, SpanPair}
 
 -- the number by which a refusal is told
 abbrev pub number : Refusal → ℕ
@@ -19,6 +19,8 @@ number (Dependent k) = 6
 number NoRow = 7
 number (BufferLength n) = 10
 number (Index k) = 11
+number (SpanBytes c) = 16
+number (SpanPair k) = 17
 
 -- the value that is returned with it, or nothing
 abbrev pub value : Refusal → Option ℕ
@@ -30,6 +32,8 @@ value (Dependent k) = Some k
 value NoRow = None
 value (BufferLength n) = Some n
 value (Index k) = Some k
+value (SpanBytes c) = Some c
+value (SpanPair k) = Some k
 
 -- A call's causes of refusal stand one after the other. The first that holds is told, by its number
 -- and value; where none holds, the call is accepted, with an answer that keeps P.
