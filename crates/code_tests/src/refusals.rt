@@ -16,10 +16,15 @@ fn numbers_and_values() -> Result<(), Fail> {
         (Refusal::NoSymbol(0), 5, Some(0)),
         (Refusal::Dependent(2), 6, Some(2)),
         (Refusal::NoRow, 7, None),
+        (Refusal::Cosets(24), 8, Some(24)),
+        (Refusal::WorkMemory(96), 9, Some(96)),
         (Refusal::BufferLength(5), 10, Some(5)),
         (Refusal::Index(3), 11, Some(3)),
+        (Refusal::TallyFull, 12, None),
+        (Refusal::Tied(1_572_840), 13, Some(1_572_840)),
         (Refusal::SpanBytes(6), 16, Some(6)),
         (Refusal::SpanPair(0), 17, Some(0)),
+        (Refusal::NoneAnswered, 18, None),
     ];
     for (refusal, number, value) in all {
         check_eq(refusal.number(), number)?;

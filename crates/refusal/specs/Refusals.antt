@@ -7,7 +7,7 @@ use Rattle.std.specs.declared.option.Option.the-variants.{Some, None}
 use Rattle.std.specs.declared.result.Result.{Result}
 use Rattle.std.specs.declared.result.Result.the-variants.{Ok, Err}
 use Rattle.refusal.specs.declared.Refusal.{Refusal}
-use Rattle.refusal.specs.declared.Refusal.the-variants.{Length, RowsHeld, WrongLength, NoSymbol, Dependent, NoRow, BufferLength, Index, SpanBytes, SpanPair}
+use Rattle.refusal.specs.declared.Refusal.the-variants.{Length, RowsHeld, WrongLength, NoSymbol, Dependent, NoRow, Cosets, WorkMemory, BufferLength, Index, TallyFull, Tied, SpanBytes, SpanPair, NoneAnswered}
 
 -- the number by which a refusal is told
 abbrev pub number : Refusal → ℕ
@@ -17,10 +17,15 @@ number (WrongLength n) = 4
 number (NoSymbol p) = 5
 number (Dependent k) = 6
 number NoRow = 7
+number (Cosets n) = 8
+number (WorkMemory w) = 9
 number (BufferLength n) = 10
 number (Index k) = 11
+number TallyFull = 12
+number (Tied c) = 13
 number (SpanBytes c) = 16
 number (SpanPair k) = 17
+number NoneAnswered = 18
 
 -- the value that is returned with it, or nothing
 abbrev pub value : Refusal → Option ℕ
@@ -30,10 +35,15 @@ value (WrongLength n) = Some n
 value (NoSymbol p) = Some p
 value (Dependent k) = Some k
 value NoRow = None
+value (Cosets n) = Some n
+value (WorkMemory w) = Some w
 value (BufferLength n) = Some n
 value (Index k) = Some k
+value TallyFull = None
+value (Tied c) = Some c
 value (SpanBytes c) = Some c
 value (SpanPair k) = Some k
+value NoneAnswered = None
 
 -- A call's causes of refusal stand one after the other. The first that holds is told, by its number
 -- and value; where none holds, the call is accepted, with an answer that keeps P.

@@ -17,14 +17,24 @@ pub enum Refusal {
     Dependent(usize),
     // There is no row to withdraw.
     NoRow,
+    // There are more cosets than a decoding takes; the length less the number of rows is this.
+    Cosets(usize),
+    // The work memory is too short; so many words are needed.
+    WorkMemory(usize),
     // The output buffer is not of the right length, which is this.
     BufferLength(usize),
     // The index is not below the count, which is this.
     Index(usize),
+    // The tally is full.
+    TallyFull,
+    // More than one codeword has the least cost, which is this.
+    Tied(u32),
     // A list of spans has more than 32 bytes, or their number, which is this, is no multiple of 4.
     SpanBytes(usize),
     // In a list of spans this pair, the first such, is against its rule.
     SpanPair(usize),
+    // No decoding was answered, so there is no noise figure.
+    NoneAnswered,
 }
 
 impl Refusal {
@@ -39,10 +49,15 @@ impl Refusal {
             Refusal::NoSymbol(_) => 5,
             Refusal::Dependent(_) => 6,
             Refusal::NoRow => 7,
+            Refusal::Cosets(_) => 8,
+            Refusal::WorkMemory(_) => 9,
             Refusal::BufferLength(_) => 10,
             Refusal::Index(_) => 11,
+            Refusal::TallyFull => 12,
+            Refusal::Tied(_) => 13,
             Refusal::SpanBytes(_) => 16,
             Refusal::SpanPair(_) => 17,
+            Refusal::NoneAnswered => 18,
         }
     }
 
@@ -57,10 +72,15 @@ impl Refusal {
             Refusal::NoSymbol(p) => Some(*p),
             Refusal::Dependent(k) => Some(*k),
             Refusal::NoRow => None,
+            Refusal::Cosets(n) => Some(*n),
+            Refusal::WorkMemory(words) => Some(*words),
             Refusal::BufferLength(n) => Some(*n),
             Refusal::Index(k) => Some(*k),
+            Refusal::TallyFull => None,
+            Refusal::Tied(cost) => Some(*cost as usize),
             Refusal::SpanBytes(count) => Some(*count),
             Refusal::SpanPair(k) => Some(*k),
+            Refusal::NoneAnswered => None,
         }
     }
 }

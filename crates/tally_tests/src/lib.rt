@@ -1,0 +1,3 @@
+// Tallies on examples.
+#[cfg(test)]
+mod tallies;
