@@ -92,6 +92,22 @@ module _ (at : ℕ → ℕ) where
     ]
   ]
 
+  -- they are listed in ascending order
+  listed-ascends : (m n i j : ℕ) → i < j → j < length (check-places at m n) → check-place at m n i < check-place at m n j
+  listed-ascends m zero i j h b = absurd (not-suc-le-zero b)
+  listed-ascends m (suc n) i j h b =
+      let old : (k : ℕ) → k < length (check-places at m n) → check-place at m (suc n) k ≡ check-place at m n k = λ k c. getD-append-left (check-places at m n) _ 0 k c in
+      elim (cases-lt j (length (check-places at m n))) [
+        | inl c ↦ omega (arith, listed-ascends m n i j h c, old i (omega arith), old j c)
+        | inr c ↦ elim (cases-bool (informs at m n)) [
+          | inl is ↦ let same = ap length (checks-skip m n is) in absurd (omega arith)
+          | inr out ↦
+              let last : length (check-places at m n) ≡ j = let more = taken-length m n out in omega arith in
+              let same : check-place at m (suc n) j ≡ n = ap (λ x. getD x j 0) (checks-take m n out) ∙ getD-push (check-places at m n) n 0 j last in
+              omega (arith, same, old i (omega arith), listed-only m n i (omega arith) .0)
+        ]
+      ]
+
   -- ascending places below n are m of the n places, so the check places are the other n - m
   pub checks-count : (m n : ℕ) → ((i j : ℕ) → i < j → j < m → at i < at j) → ((j : ℕ) → j < m → at j < n) → length (check-places at m n) + m ≡ n
   checks-count m zero ascends inside = elim (cases-eq m 0) [ inl e ↦ omega arith | inr n ↦ absurd (not-suc-le-zero (inside 0 (omega arith))) ]
@@ -129,6 +145,9 @@ module _ (at : ℕ → ℕ) where
       pub check-place-at : (i : ℕ) → i + m < n → (check-place at m n i < n) × (informs at m (check-place at m n i) ≡ false)
       check-place-at i h = listed-only m n i (omega (arith, checks-count m n ascends inside))
 
+      pub check-place-ascends : (i j : ℕ) → i < j → j + m < n → check-place at m n i < check-place at m n j
+      check-place-ascends i j h b = listed-ascends m n i j h (omega (arith, checks-count m n ascends inside))
+
       -- every place that is no information place is a check place
       pub check-found : (p : ℕ) → p < n → informs at m p ≡ false → (i : ℕ) × (i + m < n) × (check-place at m n i ≡ p)
       check-found p h out =
@@ -142,7 +161,7 @@ module _ (at : ℕ → ℕ) (v : ℕ → ℕ) where
       cond-false _ _ _ (ne-eqb (at m) k (informs-some at (suc m) k out m (omega arith)))
       ∙ information-other m k (informs-none at m k (λ j h. informs-some at (suc m) k out j (omega arith)))
 
-  information-own : (m : ℕ) → ((i j : ℕ) → i < j → j < m → at i < at j) → (j : ℕ) → j < m → at-information at m v (at j) ≡ v j
+  pub information-own : (m : ℕ) → ((i j : ℕ) → i < j → j < m → at i < at j) → (j : ℕ) → j < m → at-information at m v (at j) ≡ v j
   information-own zero ascends j h = absurd (not-suc-le-zero h)
   information-own (suc m) ascends j h = elim (cases-eq m j) [
     | inl e ↦ cond-true _ _ _ (eq-eqb (at m) (at j) (ap at e)) ∙ ap v e

@@ -22,7 +22,7 @@ use Rattle.algebra.proofs.Checks.{informs-none, check-place-at, check-found, i
 
 module _ (f : Ops) (l : Laws f) where
   -- symbols whose negative is the same are equal
-  cancelled : (a b c : ℕ) → a < f .order → b < f .order → c < f .order → f .sum a c ≡ 0 → f .sum b c ≡ 0 → a ≡ b
+  pub cancelled : (a b c : ℕ) → a < f .order → b < f .order → c < f .order → f .sum a c ≡ 0 → f .sum b c ≡ 0 → a ≡ b
   cancelled a b c ha hb hc p q =
       sym (sum-zero-right f l a ha) ∙ ap (f .sum a) (sym q ∙ l .sum-comm b c hb hc) ∙ sym (l .sum-assoc a c b ha hc hb)
       ∙ ap (λ x. f .sum x b) p ∙ l .sum-zero b hb

@@ -14,9 +14,9 @@ use Rattle.algebra.proofs.Totals.{total-zero}
 use Rattle.algebra.proofs.Cells.{by-zero}
 use Rattle.algebra.proofs.Unique.{read-off}
 use Rattle.generator.specs.declared.Generator.{Generator}
-use Rattle.generator.specs.Parts.{size, dimension, rows-of, places-of}
+use Rattle.generator.specs.Parts.{size, dimension, rows-of, places-of, Message, codeword}
 use Rattle.generator.proofs.Systematics.{symbols-of, systematic, ends}
-use Rattle.code.specs.Codes.{Message, codeword, Encoded}
+use Rattle.code.specs.Codes.{Encoded}
 
 module _ (f : Ops) (l : Laws f) (g : Generator) where
   message-symbols : (m : List ℕ) → Message f g m → Symbols f (word m)

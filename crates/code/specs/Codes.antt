@@ -6,10 +6,10 @@ use lib.ListN.{length}
 use Rattle.std.specs.declared.option.Option.the-variants.{Some}
 use Rattle.std.specs.declared.result.Result.{Result}
 use Rattle.field.specs.Field.{Ops}
-use Rattle.algebra.specs.Words.{word, cells, combination, Span, Independent}
+use Rattle.algebra.specs.Words.{word, cells, Span, Independent}
 use Rattle.algebra.specs.Reduced.{Reduced-form, Only-form, First-place}
 use Rattle.generator.specs.declared.Generator.{Generator}
-use Rattle.generator.specs.Parts.{size, dimension, rows-of, places-of, check-place-of, check-row-of}
+use Rattle.generator.specs.Parts.{size, dimension, rows-of, places-of, check-place-of, check-row-of, Message, codeword}
 use Rattle.refusal.specs.declared.Refusal.{Refusal}
 use Rattle.code.specs.Drafts.{State, First-none}
 use Rattle.refusal.specs.Refusals.{accepted, refused-if, refused-at}
@@ -24,14 +24,6 @@ pub record Sealed (f : Ops) (s : State) (g : Generator) : Type 0 where
   pub only : Only-form f (length (s .rows)) (cells (s .rows)) (dimension g) (rows-of f g) (places-of g)
   pub first : 0 < dimension g → First-place (length (s .rows)) (cells (s .rows)) (places-of g 0)
   pub independent : Independent f (length (s .rows)) (cells (s .rows))
-
--- a message: as many symbols as there are reduced rows
-abbrev pub Message : Ops → Generator → List ℕ → Type 0
-Message f g m = (length m ≡ dimension g) × ((j : ℕ) → j < length m → word m j < f .order)
-
--- the codeword of a message: the sum of the reduced rows, each times its symbol
-abbrev pub codeword : Ops → Generator → List ℕ → ℕ → ℕ
-codeword f g m = combination f (word m) (rows-of f g) (dimension g)
 
 -- `out` is the codeword of the message m: in the span of the rows, with the message at the
 -- information places in order; no other message has this codeword.

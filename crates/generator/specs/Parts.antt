@@ -1,9 +1,10 @@
 -- What a generator is to its readers.
 use mathlib.Core.List.{List}
 use mathlib.Core.Path.{_≡_}
-use Prim.Native.Nat.{ℕ, _≤_}
+use Prim.Native.Nat.{ℕ, _<_, _≤_}
+use lib.ListN.{length}
 use Rattle.field.specs.Field.{Ops}
-use Rattle.algebra.specs.Words.{word, cells, cut, symbol-cells, Symbols, Span}
+use Rattle.algebra.specs.Words.{word, cells, cut, symbol-cells, combination, Symbols, Span}
 use Rattle.algebra.specs.Checks.{check-place, check-row, syndrome}
 use Rattle.generator.specs.declared.Generator.{Generator}
 
@@ -34,6 +35,14 @@ check-row-of f g = check-row f (dimension g) (rows-of f g) (places-of g)
 -- the syndrome that it gives a word
 abbrev pub syndrome-of : Ops → Generator → (ℕ → ℕ) → ℕ → ℕ
 syndrome-of f g = syndrome f (size g) (dimension g) (rows-of f g) (places-of g)
+
+-- a message: as many symbols as there are rows
+abbrev pub Message : Ops → Generator → List ℕ → Type 0
+Message f g m = (length m ≡ dimension g) × ((j : ℕ) → j < length m → word m j < f .order)
+
+-- the codeword of a message: the sum of the rows, each times its symbol
+abbrev pub codeword : Ops → Generator → List ℕ → ℕ → ℕ
+codeword f g m = combination f (word m) (rows-of f g) (dimension g)
 
 -- the first n places of rows of numbers, in a field
 abbrev pub first-rows : Ops → ℕ → List (List ℕ) → ℕ → ℕ → ℕ

@@ -1,0 +1,3 @@
+pub mod Trellises
+pub mod Cheapest
+pub mod Lightest

@@ -1,0 +1,4 @@
+pub mod States
+pub mod Partial
+pub mod Codewords
+pub mod Weights

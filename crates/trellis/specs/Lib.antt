@@ -1,0 +1,9 @@
+pub mod Shapes
+pub mod Steps
+pub mod CheckRows
+pub mod Reaching
+pub mod Filling
+pub mod Ends
+pub mod Clearing
+pub mod Rooms
+pub mod Told
