@@ -4,6 +4,7 @@ ghost use mathlib.Core.List.{List};
 ghost use mathlib.Core.Path.{_≡_};
 ghost use Rattle.std.specs.Results.{Cases};
 ghost use Rattle.generator.specs.Parts.{size, dimension};
+ghost use Rattle.tally.specs.Tallies.{counts-of, none-yet};
 ghost use Rattle.code.specs.Drafts.{State, Holds};
 ghost use Rattle.code.specs.Histories.{Call, Held, Follows};
 ghost use Rattle.code.specs.Codes.{Sealed, Message-encoded, Reduced-read, Check-read};
@@ -13,21 +14,26 @@ use field::Field;
 use generator::Generator;
 use refusal::Refusal;
 use std::marker::PhantomData;
+use tally::Tally;
 
+// What is sent needs the generator alone; what is received is counted in the tally.
 #[derive(Drop)]
 pub struct Code<F> {
-    generator: Generator,
+    pub(crate) generator: Generator,
+    pub(crate) tally: Tally,
     field: PhantomData<F>,
 }
 
 impl<F: Field> Draft<F> {
-    // Ends the draft, and gives the code that its rows generate.
+    // Ends the draft, and gives the code that its rows generate, with nothing in its tally.
     pub fn seal(self) -> Code<F>
         ensures told { λ r. ⌜ ((s : State) → Holds (F·Field .ops) (self .basis) s → Sealed (F·Field .ops) s (r .generator)) ⌝ }
         ensures follows { λ r. ⌜ ((calls : List Call) (s : State) → Follows (F·Field .ops) calls (self .basis) → Held (F·Field .ops) calls s → Sealed (F·Field .ops) s (r .generator)) ⌝ }
+        ensures tally { λ r. ⌜ counts-of (r .tally) ≡ none-yet ⌝ }
     {
         Code {
             generator: self.basis.generator::<F>(),
+            tally: Tally::new(),
             field: PhantomData,
         }
     }
@@ -45,6 +51,13 @@ impl<F: Field> Code<F> {
         ensures { λ r. ⌜ r ≡ dimension (now (self .entry) .generator) ⌝ }
     {
         self.generator.dimension()
+    }
+
+    // How many decodings were answered and tied, and what the answered ones cost in all.
+    pub fn tally(&self) -> Tally
+        ensures { λ r. ⌜ r ≡ now (self .entry) .tally ⌝ }
+    {
+        self.tally
     }
 
     // Writes the codeword of a message.

@@ -1,5 +1,7 @@
 // Drafts, codes and what they are made of, on examples.
 #[cfg(test)]
+mod decodings;
+#[cfg(test)]
 mod edges;
 #[cfg(test)]
 mod examples;

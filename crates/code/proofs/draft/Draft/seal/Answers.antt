@@ -10,4 +10,4 @@ returns g c =
     let b = c .args .self .basis in
     let told : (s : State) → Holds f b s → Sealed f s (c .generator .result) =
     λ s h. sealed f (g .F·Field .laws) b s h (c .generator .result) (c .generator .ensures .long) (c .generator .ensures .all) (c .generator .ensures .form) in
-    record { told = told; follows = λ calls s p h. told s (held-holds f calls b s p h) }
+    record { told = told; follows = λ calls s p h. told s (held-holds f calls b s p h); tally = c .new .ensures }
