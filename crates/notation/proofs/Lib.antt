@@ -6,3 +6,4 @@ pub mod Printing
 pub mod Sayings
 pub mod Spaces
 pub mod Spelling
+pub mod Ways

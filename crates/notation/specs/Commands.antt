@@ -15,6 +15,9 @@ pub data Saying : Type 0 where
   back : Saying
   seal : Saying
   send : List ℕ → Saying
+  hear : List ℕ → Saying
+  distance : Saying
+  noise : Saying
 
 -- the text is the order q of a field, written in decimal as one of these four
 abbrev pub Order : List ℕ → ℕ → Type 0
@@ -41,6 +44,9 @@ Form line (row word) = After (codes "row ") line word
 Form line back = line ≡ codes "back"
 Form line seal = line ≡ codes "seal"
 Form line (send word) = After (codes "send ") line word
+Form line (hear word) = After (codes "hear ") line word
+Form line distance = line ≡ codes "distance"
+Form line noise = line ≡ codes "noise"
 
 -- the line says this: it has at most 80 bytes, and its form
 abbrev pub Says : List ℕ → Saying → Type 0

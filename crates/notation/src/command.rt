@@ -25,6 +25,12 @@ pub enum Command {
     Seal,
     // `send M`: the message with the symbols `M` is sent.
     Send(Word),
+    // `hear W`: the word with the symbols `W` was received.
+    Hear(Word),
+    // `distance`: the minimum distance is asked for.
+    Distance,
+    // `noise`: the noise figure is asked for.
+    Noise,
     // No command.
     Unreadable,
 }
@@ -43,11 +49,20 @@ pub fn read_command(line: &[u8]) -> Command
     if line == b"seal" {
         return Command::Seal;
     }
+    if line == b"distance" {
+        return Command::Distance;
+    }
+    if line == b"noise" {
+        return Command::Noise;
+    }
     if let Some(word) = word_after(b"row ", line) {
         return Command::Row(word);
     }
     if let Some(word) = word_after(b"send ", line) {
         return Command::Send(word);
+    }
+    if let Some(word) = word_after(b"hear ", line) {
+        return Command::Hear(word);
     }
     if let Some((order, length)) = numbers::kind_after(b"kind ", line) {
         return Command::Kind { order, length };

@@ -27,6 +27,14 @@ fn says_send(line: &[u8], symbols: &[u8]) -> bool {
     }
 }
 
+// Whether the line says a received word with these symbols.
+fn says_hear(line: &[u8], symbols: &[u8]) -> bool {
+    match read_command(line) {
+        Command::Hear(word) => word.symbols() == symbols,
+        _ => false,
+    }
+}
+
 // Whether the line says no command.
 fn says_none(line: &[u8]) -> bool {
     match read_command(line) {
@@ -78,9 +86,32 @@ fn messages() -> Result<(), Fail> {
 }
 
 #[test]
+fn received() -> Result<(), Fail> {
+    check(says_hear(b"hear -", &[]))?;
+    check(says_hear(b"hear 10f", &[1, 0, 15]))?;
+    check(says_none(b"hear"))?;
+    check(says_none(b"hear "))?;
+    check(says_none(b"hear  1"))?;
+    check(says_none(b"hear 1 "))?;
+    check(says_none(b" hear 1"))?;
+    check(says_none(b"hear1"))?;
+    check(says_none(b"heard 1"))?;
+    check(says_none(b"hear 1g"))
+}
+
+#[test]
 fn bare_commands() -> Result<(), Fail> {
     check(matches!(read_command(b"back"), Command::Back))?;
     check(matches!(read_command(b"seal"), Command::Seal))?;
+    check(matches!(read_command(b"distance"), Command::Distance))?;
+    check(matches!(read_command(b"noise"), Command::Noise))?;
+    check(says_none(b"distance 1"))?;
+    check(says_none(b"distance -"))?;
+    check(says_none(b" distance"))?;
+    check(says_none(b"distanc"))?;
+    check(says_none(b"noise "))?;
+    check(says_none(b"noises"))?;
+    check(says_none(b"Noise"))?;
     check(says_none(b"back "))?;
     check(says_none(b" back"))?;
     check(says_none(b"Back"))?;

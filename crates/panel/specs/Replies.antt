@@ -1,22 +1,21 @@
--- What the panel replies to a command, and what it holds then.
+-- How the panel answers a command, and what it and its work memory hold then.
 use mathlib.Core.Path.{_≡_}
 use mathlib.Core.List.{List, []}
 use Prim.Native.Nat.{ℕ}
-use lib.ListN.{take}
 use Rattle.std.specs.declared.result.Result.{Result}
 use Rattle.std.specs.declared.result.Result.the-variants.{Ok, Err}
 use Rattle.field.specs.Field.{Ops}
-use Rattle.generator.specs.declared.Generator.{Generator}
-use Rattle.generator.specs.Parts.{size, dimension}
+use Rattle.generator.specs.Parts.{dimension}
+use Rattle.tally.specs.Tallies.{counts-of, none-yet}
 use Rattle.code.specs.declared.draft.Draft.{Draft}
 use Rattle.code.specs.declared.sealed.Code.{Code}
 use Rattle.refusal.specs.declared.Refusal.{Refusal}
-use Rattle.code.specs.Views.{basis-of, generator-of}
+use Rattle.code.specs.Views.{basis-of, generator-of, tally-of}
 use Rattle.refusal.specs.Refusals.{number}
 use Rattle.code.specs.Drafts.{State, fresh, Holds, Length-set, Row-pushed, Row-popped, after-push, after-pop, Turns}
-use Rattle.code.specs.Codes.{Sealed, Message-encoded}
+use Rattle.code.specs.Codes.{Sealed}
 use Rattle.notation.specs.declared.command.Command.{Command}
-use Rattle.notation.specs.declared.command.Command.the-variants.{Kind, Row, Back, Seal, Send, Unreadable}
+use Rattle.notation.specs.declared.command.Command.the-variants.{Kind, Row, Back, Seal, Send, Hear, Distance, Noise, Unreadable}
 use Rattle.notation.specs.Views.{letters}
 use Rattle.field.specs.declared.prime.Two.{Two}
 use Rattle.field.specs.declared.prime.Three.{Three}
@@ -28,22 +27,9 @@ use Rattle.panel.specs.declared.session.Panel.{Panel}
 use Rattle.panel.specs.declared.session.Panel.the-variants as panel
 use Rattle.panel.specs.declared.session.Stage.{Stage}
 use Rattle.panel.specs.declared.session.Stage.the-variants as stage
-use Rattle.panel.specs.declared.session.Reply.{Reply}
-use Rattle.panel.specs.declared.session.Reply.the-variants as reply
-
--- the reply to a call that answers how many rows are held
-abbrev pub count-reply : Result ℕ Refusal → Reply
-count-reply (Ok k) = reply.Number k
-count-reply (Err e) = reply.Refused (number e)
-
--- the reply to an encoding: the codeword of n symbols, at the front of an array
-abbrev pub Shows : ℕ → List ℕ → Result Unit Refusal → Reply → Type 0
-Shows n out (Ok _) r = (symbols : List ℕ) × (take n symbols ≡ out) × (r ≡ reply.Word symbols n)
-Shows n out (Err e) r = r ≡ reply.Refused (number e)
-
--- the reply to the message m
-abbrev pub Sent : Ops → Generator → List ℕ → Reply → Type 0
-Sent f g m r = (out : List ℕ) × (a : Result Unit Refusal) × Shows (size g) out a r × Message-encoded f g m (size g) out a
+use Rattle.panel.specs.declared.replies.Reply.{Reply}
+use Rattle.panel.specs.declared.replies.Reply.the-variants as reply
+use Rattle.panel.specs.Calls.{count-reply, Sent, Heard, Measured, Noise-told}
 
 -- a command that is not for what the panel holds changes nothing
 abbrev pub Passed : {F : Type 0} → Stage F → Stage F → Reply → Type 0
@@ -56,23 +42,30 @@ At-draft {F} f d (Row w) t r =
 At-draft {F} f d Back t r =
     (e : Draft F) × (a : Result ℕ Refusal) × (t ≡ stage.Open e) × (r ≡ count-reply a) × Turns f (basis-of d) Row-popped after-pop a (basis-of e)
 At-draft {F} f d Seal t r =
-    (c : Code F) × (t ≡ stage.Sealed c) × (r ≡ reply.Number (dimension (generator-of c))) × ((s : State) → Holds f (basis-of d) s → Sealed f s (generator-of c))
+    (c : Code F) × (t ≡ stage.Sealed c) × (r ≡ reply.Number (dimension (generator-of c))) × ((s : State) → Holds f (basis-of d) s → Sealed f s (generator-of c)) × (counts-of (tally-of c) ≡ none-yet)
 At-draft f d (Kind q n) t r = Passed (stage.Open d) t r
 At-draft f d (Send w) t r = Passed (stage.Open d) t r
+At-draft f d (Hear w) t r = Passed (stage.Open d) t r
+At-draft f d Distance t r = Passed (stage.Open d) t r
+At-draft f d Noise t r = Passed (stage.Open d) t r
 At-draft f d Unreadable t r = Passed (stage.Open d) t r
 
--- a command at a code
-abbrev pub At-code : {F : Type 0} → Ops → Code F → Command → Stage F → Reply → Type 0
-At-code f c (Send w) t r = (t ≡ stage.Sealed c) × Sent f (generator-of c) (letters w) r
-At-code f c (Row w) t r = Passed (stage.Sealed c) t r
-At-code f c Back t r = Passed (stage.Sealed c) t r
-At-code f c Seal t r = Passed (stage.Sealed c) t r
-At-code f c (Kind q n) t r = Passed (stage.Sealed c) t r
-At-code f c Unreadable t r = Passed (stage.Sealed c) t r
+-- a command at a code, with the work memory `was`, which then is `is`
+abbrev pub At-code : {F : Type 0} → Ops → Code F → Command → List ℕ → Stage F → Reply → List ℕ → Type 0
+At-code f c (Send w) was t r is = (t ≡ stage.Sealed c) × Sent f (generator-of c) (letters w) r × (is ≡ was)
+At-code {F} f c (Hear w) was t r is = (d : Code F) × (t ≡ stage.Sealed d) × Heard f c (letters w) was d r is
+At-code f c Distance was t r is = (t ≡ stage.Sealed c) × Measured f (generator-of c) was r is
+At-code f c Noise was t r is = (t ≡ stage.Sealed c) × Noise-told (counts-of (tally-of c)) r × (is ≡ was)
+At-code f c (Row w) was t r is = Passed (stage.Sealed c) t r × (is ≡ was)
+At-code f c Back was t r is = Passed (stage.Sealed c) t r × (is ≡ was)
+At-code f c Seal was t r is = Passed (stage.Sealed c) t r × (is ≡ was)
+At-code f c (Kind q n) was t r is = Passed (stage.Sealed c) t r × (is ≡ was)
+At-code f c Unreadable was t r is = Passed (stage.Sealed c) t r × (is ≡ was)
 
-abbrev pub At-stage : {F : Type 0} → Ops → Stage F → Command → Stage F → Reply → Type 0
-At-stage f (stage.Open d) command t r = At-draft f d command t r
-At-stage f (stage.Sealed c) command t r = At-code f c command t r
+-- a command at a draft needs no work memory
+abbrev pub At-stage : {F : Type 0} → Ops → Stage F → Command → List ℕ → Stage F → Reply → List ℕ → Type 0
+At-stage f (stage.Open d) command was t r is = At-draft f d command t r × (is ≡ was)
+At-stage f (stage.Sealed c) command was t r is = At-code f c command was t r is
 
 -- the draft of length n with which the panel begins, or why there is none
 abbrev pub Opened : {F : Type 0} → Ops → ℕ → Result (Stage F) Refusal → Type 0
@@ -98,15 +91,22 @@ Chosen q n p r =
     × (q ≡ 4 → Opens (polynomials 2 3) n panel.Four p r) × (q ≡ 16 → Opens (polynomials 4 3) n panel.Sixteen p r)
     × ((q ≡ 2 → ⊥) → (q ≡ 3 → ⊥) → (q ≡ 4 → ⊥) → (q ≡ 16 → ⊥) → Ignored p r)
 
--- A command at the panel p, which then is q: it chooses a field first, and goes to the draft or the code of that field from then on.
-abbrev pub Answered : Panel → Command → Panel → Reply → Type 0
-Answered panel.Fresh (Kind q n) p r = Chosen q n p r
-Answered panel.Fresh (Row w) p r = Ignored p r
-Answered panel.Fresh Back p r = Ignored p r
-Answered panel.Fresh Seal p r = Ignored p r
-Answered panel.Fresh (Send w) p r = Ignored p r
-Answered panel.Fresh Unreadable p r = Ignored p r
-Answered (panel.Two s) command p r = (t : Stage Two) × (p ≡ panel.Two t) × At-stage (remainders 2) s command t r
-Answered (panel.Three s) command p r = (t : Stage Three) × (p ≡ panel.Three t) × At-stage (remainders 3) s command t r
-Answered (panel.Four s) command p r = (t : Stage Four) × (p ≡ panel.Four t) × At-stage (polynomials 2 3) s command t r
-Answered (panel.Sixteen s) command p r = (t : Stage Sixteen) × (p ≡ panel.Sixteen t) × At-stage (polynomials 4 3) s command t r
+-- a command at a fresh panel
+abbrev pub At-fresh : Command → Panel → Reply → Type 0
+At-fresh (Kind q n) p r = Chosen q n p r
+At-fresh (Row w) p r = Ignored p r
+At-fresh Back p r = Ignored p r
+At-fresh Seal p r = Ignored p r
+At-fresh (Send w) p r = Ignored p r
+At-fresh (Hear w) p r = Ignored p r
+At-fresh Distance p r = Ignored p r
+At-fresh Noise p r = Ignored p r
+At-fresh Unreadable p r = Ignored p r
+
+-- A command at a panel, which then is p: it chooses a field first, and goes to the draft or the code of that field from then on. The work memory was `was`, and then is `is`.
+abbrev pub Answered : Panel → Command → List ℕ → Panel → Reply → List ℕ → Type 0
+Answered panel.Fresh command was p r is = At-fresh command p r × (is ≡ was)
+Answered (panel.Two s) command was p r is = (t : Stage Two) × (p ≡ panel.Two t) × At-stage (remainders 2) s command was t r is
+Answered (panel.Three s) command was p r is = (t : Stage Three) × (p ≡ panel.Three t) × At-stage (remainders 3) s command was t r is
+Answered (panel.Four s) command was p r is = (t : Stage Four) × (p ≡ panel.Four t) × At-stage (polynomials 2 3) s command was t r is
+Answered (panel.Sixteen s) command was p r is = (t : Stage Sixteen) × (p ≡ panel.Sixteen t) × At-stage (polynomials 4 3) s command was t r is

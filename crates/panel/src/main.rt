@@ -3,13 +3,17 @@ use notation::command::Command;
 use notation::command::read_command;
 use notation::word::LONGEST;
 use notation::word::spelled;
+use replies::Reply;
 use session::Panel;
-use session::Reply;
 use session::answer;
 use std::io;
 use std::io::Read;
 
+mod replies;
 mod session;
+
+// The words of work memory that the calls of a code are lent.
+const WORK: usize = 12800;
 
 // What stands on the next line of the input.
 #[derive(Clone, Copy)]
@@ -54,6 +58,16 @@ fn show(rt: &LibcRuntime, reply: &Reply) -> io::Result<()> {
             let text = spelled(rt.alloc(), &symbols[0..(*length).min(24)])?;
             println!(rt, "ok {text}")
         }
+        Reply::Decoded {
+            symbols,
+            length,
+            cost,
+        } => {
+            let text = spelled(rt.alloc(), &symbols[0..(*length).min(24)])?;
+            println!(rt, "ok {text} {cost}")
+        }
+        Reply::NoDistance => println!(rt, "ok none"),
+        Reply::Figure(figure) => println!(rt, "ok {figure}"),
         Reply::Refused(number) => println!(rt, "no {number}"),
         Reply::Unreadable => println!(rt, "??"),
     }
@@ -62,6 +76,7 @@ fn show(rt: &LibcRuntime, reply: &Reply) -> io::Result<()> {
 fn main(rt: LibcRuntime) -> io::Result<()> {
     let mut input = rt.stdin();
     let mut line = [0; LONGEST];
+    let mut work = [0; WORK];
     let mut panel = Panel::Fresh;
     for _ in 0..u64::MAX {
         let command = match next_line(&mut input, &mut line)? {
@@ -69,7 +84,7 @@ fn main(rt: LibcRuntime) -> io::Result<()> {
             Line::Long => Command::Unreadable,
             Line::Text(length) => read_command(&line[0..length.min(LONGEST)]),
         };
-        let (next, reply) = answer(panel, &command);
+        let (next, reply) = answer(panel, &command, &mut work);
         panel = next;
         show(&rt, &reply)?;
     }

@@ -1,7 +1,11 @@
 // What the panel holds, and how it answers a command.
-ghost use mathlib.Core.Path.{_≡_};
-ghost use Rattle.code.specs.Views.{generator-of};
-ghost use Rattle.panel.specs.Replies.{count-reply, Sent, At-stage, Opened, Chosen, Answered};
+ghost use Rattle.panel.specs.Replies.{At-stage, Opened, Chosen, Answered};
+use crate::replies::Reply;
+use crate::replies::counted;
+use crate::replies::hear;
+use crate::replies::measure;
+use crate::replies::noise;
+use crate::replies::send;
 use code::Code;
 use code::Draft;
 use field::Field;
@@ -33,38 +37,9 @@ pub(crate) enum Panel {
     Sixteen(Stage<Sixteen>),
 }
 
-#[derive(Clone, Copy)]
-pub(crate) enum Reply {
-    Done,
-    Number(usize),
-    Word { symbols: [u8; 24], length: usize },
-    Refused(u8),
-    Unreadable,
-}
-
-fn counted(rows: Result<usize, Refusal>) -> Reply
-    ensures { λ r. ⌜ r ≡ count-reply rows ⌝ }
-{
-    match rows {
-        Ok(count) => Reply::Number(count),
-        Err(refusal) => Reply::Refused(refusal.number()),
-    }
-}
-
-fn send<F: Field>(code: &Code<F>, message: &[u8]) -> Reply
-    ensures { λ r. ⌜ Sent (F·Field .ops) (generator-of (now (code .entry))) (now (message .entry)) r ⌝ }
-{
-    let mut symbols = [0; 24];
-    let length = code.length().min(24);
-    match code.encode(message, &mut symbols[0..length]) {
-        Ok(()) => Reply::Word { symbols, length },
-        Err(refusal) => Reply::Refused(refusal.number()),
-    }
-}
-
-// Answers a command at a draft or a code. One that is not for it is as unreadable.
-fn at_stage<F: Field>(stage: Stage<F>, command: &Command) -> (Stage<F>, Reply)
-    ensures { λ r. ⌜ At-stage (F·Field .ops) stage (now (command .entry)) (r .0) (r .1) ⌝ }
+// Answers a command at a draft or a code, with work memory. One that is not for it is as unreadable.
+fn at_stage<F: Field>(stage: Stage<F>, command: &Command, work: &mut [u32]) -> (Stage<F>, Reply)
+    ensures { λ r. ⌜ At-stage (F·Field .ops) stage (now (command .entry)) (now (work .entry)) (r .0) (r .1) (now (work .exit)) ⌝ }
 {
     match stage {
         Stage::Open(mut draft) => match command {
@@ -83,9 +58,12 @@ fn at_stage<F: Field>(stage: Stage<F>, command: &Command) -> (Stage<F>, Reply)
             }
             _ => (Stage::Open(draft), Reply::Unreadable),
         },
-        Stage::Sealed(code) => {
+        Stage::Sealed(mut code) => {
             let reply = match command {
                 Command::Send(word) => send(&code, word.symbols()),
+                Command::Hear(word) => hear(&mut code, word.symbols(), work),
+                Command::Distance => measure(&code, work),
+                Command::Noise => noise(&code),
                 _ => Reply::Unreadable,
             };
             (Stage::Sealed(code), reply)
@@ -128,9 +106,9 @@ fn choose(order: u8, length: usize) -> (Panel, Reply)
     }
 }
 
-// Answers a command.
-pub(crate) fn answer(panel: Panel, command: &Command) -> (Panel, Reply)
-    ensures { λ r. ⌜ Answered panel (now (command .entry)) (r .0) (r .1) ⌝ }
+// Answers a command, with work memory.
+pub(crate) fn answer(panel: Panel, command: &Command, work: &mut [u32]) -> (Panel, Reply)
+    ensures { λ r. ⌜ Answered panel (now (command .entry)) (now (work .entry)) (r .0) (r .1) (now (work .exit)) ⌝ }
 {
     match panel {
         Panel::Fresh => match command {
@@ -138,19 +116,19 @@ pub(crate) fn answer(panel: Panel, command: &Command) -> (Panel, Reply)
             _ => (Panel::Fresh, Reply::Unreadable),
         },
         Panel::Two(stage) => {
-            let (stage, reply) = at_stage(stage, command);
+            let (stage, reply) = at_stage(stage, command, work);
             (Panel::Two(stage), reply)
         }
         Panel::Three(stage) => {
-            let (stage, reply) = at_stage(stage, command);
+            let (stage, reply) = at_stage(stage, command, work);
             (Panel::Three(stage), reply)
         }
         Panel::Four(stage) => {
-            let (stage, reply) = at_stage(stage, command);
+            let (stage, reply) = at_stage(stage, command, work);
             (Panel::Four(stage), reply)
         }
         Panel::Sixteen(stage) => {
-            let (stage, reply) = at_stage(stage, command);
+            let (stage, reply) = at_stage(stage, command, work);
             (Panel::Sixteen(stage), reply)
         }
     }

@@ -6,20 +6,24 @@ use Rattle.panel.proofs.session.answer.Needs as need
 
 pub returns-in-Two : need.returns-in-Two
 returns-in-Two c =
-    let P : Panel → Type 0 = λ p. Answered p (c .args .command .now) (Two (c .at-stage-stage .result .0)) (c .at-stage-stage .result .1) in
-    subst P (sym (c .in-Two .is)) (c .at-stage-stage .result .0, refl, c .at-stage-stage .ensures)
+    let step = c .at-stage-stage in
+    let P : Panel → Type 0 = λ p. Answered p (c .args .command .now) (c .args .work .now) (Two (step .result .0)) (step .result .1) (step .last .work) in
+    subst P (sym (c .in-Two .is)) (step .result .0, refl, step .ensures)
 
 pub returns-in-Three : need.returns-in-Three
 returns-in-Three c =
-    let P : Panel → Type 0 = λ p. Answered p (c .args .command .now) (Three (c .at-stage-stage-in-Three .result .0)) (c .at-stage-stage-in-Three .result .1) in
-    subst P (sym (c .in-Three .is)) (c .at-stage-stage-in-Three .result .0, refl, c .at-stage-stage-in-Three .ensures)
+    let step = c .at-stage-stage-in-Three in
+    let P : Panel → Type 0 = λ p. Answered p (c .args .command .now) (c .args .work .now) (Three (step .result .0)) (step .result .1) (step .last .work) in
+    subst P (sym (c .in-Three .is)) (step .result .0, refl, step .ensures)
 
 pub returns-in-Four : need.returns-in-Four
 returns-in-Four c =
-    let P : Panel → Type 0 = λ p. Answered p (c .args .command .now) (Four (c .at-stage-stage-in-Four .result .0)) (c .at-stage-stage-in-Four .result .1) in
-    subst P (sym (c .in-Four .is)) (c .at-stage-stage-in-Four .result .0, refl, c .at-stage-stage-in-Four .ensures)
+    let step = c .at-stage-stage-in-Four in
+    let P : Panel → Type 0 = λ p. Answered p (c .args .command .now) (c .args .work .now) (Four (step .result .0)) (step .result .1) (step .last .work) in
+    subst P (sym (c .in-Four .is)) (step .result .0, refl, step .ensures)
 
 pub returns-in-Sixteen : need.returns-in-Sixteen
 returns-in-Sixteen c =
-    let P : Panel → Type 0 = λ p. Answered p (c .args .command .now) (Sixteen (c .at-stage-stage-in-Sixteen .result .0)) (c .at-stage-stage-in-Sixteen .result .1) in
-    subst P (sym (c .in-Sixteen .is)) (c .at-stage-stage-in-Sixteen .result .0, refl, c .at-stage-stage-in-Sixteen .ensures)
+    let step = c .at-stage-stage-in-Sixteen in
+    let P : Panel → Type 0 = λ p. Answered p (c .args .command .now) (c .args .work .now) (Sixteen (step .result .0)) (step .result .1) (step .last .work) in
+    subst P (sym (c .in-Sixteen .is)) (step .result .0, refl, step .ensures)

@@ -1,6 +1,6 @@
-use mathlib.Core.Path.{_≡_, refl, sym, ap, subst, _∙_}
+use mathlib.Core.Path.{_≡_, ap, subst}
 use mathlib.Core.List.{List, _++_}
-use Prim.Native.Nat.{ℕ, min}
+use Prim.Native.Nat.{ℕ}
 use native.Mathlib.Omega.{arith}
 use lib.ListN.{length}
 use Rattle.std.specs.declared.result.Result.the-variants.{Ok}
@@ -8,9 +8,9 @@ use Rattle.std.proofs.shelf.Lists.{take-at}
 use Rattle.generator.specs.Parts.{size}
 use Rattle.code.specs.Views.{generator-of}
 use Rattle.code.specs.Codes.{Message-encoded}
-use Rattle.panel.specs.declared.session.Reply.the-variants.{Word}
-use Rattle.panel.specs.Replies.{Shows}
-use Rattle.panel.proofs.session.send.Needs as need
+use Rattle.panel.specs.declared.replies.Reply.the-variants.{Word}
+use Rattle.panel.specs.Calls.{Shows}
+use Rattle.panel.proofs.replies.send.Needs as need
 
 -- what was written at the front of an array
 shown : (n k : ℕ) (out rest : List ℕ) → k ≡ n → length out ≡ n → Shows n out (Ok tt) (Word (out ++ rest) k)
