@@ -56,7 +56,7 @@ abbrev pub refused-if : {A : Type 0} → Type 0 → ℕ → Option ℕ → (Resu
 refused-if C n v next (Ok a) = (C → ⊥) × next (Ok a)
 refused-if C n v next (Err e) = (C × (number e ≡ n) × (value e ≡ v)) ⊎ ((C → ⊥) × next (Err e))
 
--- a cause that holds at some place, with its number and that place, and the causes after it
+-- a cause that holds of some value, as a place or a cost, told with its number and that value, and the causes after it
 abbrev pub refused-at : {A : Type 0} → (ℕ → Type 0) → ℕ → (Result A Refusal → Type 0) → Result A Refusal → Type 0
 refused-at C n next (Ok a) = ((p : ℕ) → C p → ⊥) × next (Ok a)
 refused-at C n next (Err e) = ((p : ℕ) × C p × (number e ≡ n) × (value e ≡ Some p)) ⊎ (((p : ℕ) → C p → ⊥) × next (Err e))
