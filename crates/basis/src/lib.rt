@@ -1,4 +1,6 @@
 // Independent rows that grow and shrink at their end.
+#![tactic(auto)]
+
 ghost use Rattle.std.specs.Prelude.{◌≡◌, ℕ, ◌<◌, ◌≤◌, [], length, slice_index, slice_index_or};
 ghost use Rattle.algebra.specs.Words.{cells};
 

@@ -1,4 +1,6 @@
 // What the benchmark in bench/ measures: the same decoding, many times.
+#![tactic(auto)]
+
 ghost use Rattle.std.specs.Prelude.{◌≡◌};
 ghost use Rattle.bench.specs.Orders.{Known};
 

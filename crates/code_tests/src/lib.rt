@@ -1,4 +1,6 @@
 // Drafts, codes and what they are made of, on examples.
+#![tactic(auto)]
+
 #[cfg(test)]
 mod decodings;
 #[cfg(test)]

@@ -1,4 +1,6 @@
 // Decoding, coset leaders and the minimum distance, of a generator and a tally.
+#![tactic(auto)]
+
 mod measuring;
 mod reading;
 

@@ -1,4 +1,6 @@
 // Finite fields of 2 to 16 symbols, as one trait with its laws, and the fields that are built.
+#![tactic(auto)]
+
 ghost use Rattle.std.specs.Prelude.{◌≡◌};
 ghost use Rattle.field.specs.Field.{Ops, Laws};
 

@@ -1,4 +1,6 @@
 // The fields on examples, and against tables that are made another way.
+#![tactic(auto)]
+
 #[cfg(test)]
 mod tests {
     use field::{Field, Four, Sixteen, Three, Two};

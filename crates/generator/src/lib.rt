@@ -1,4 +1,6 @@
 // The generator of a code in systematic form: its rows, with a place for each at which a message is carried.
+#![tactic(auto)]
+
 ghost use Rattle.std.specs.Prelude.{◌≡◌, ℕ, ◌<◌, ◌≤◌, [], length, ◌≢◌, slice_index, slice_index_or};
 ghost use Rattle.algebra.specs.Words.{cells};
 

@@ -41,16 +41,16 @@ pub fn read_command(line: &[u8]) -> Command
     if line.len() > LONGEST {
         return Command::Unreadable;
     }
-    if line == b"back" {
+    if line == b"back".as_slice() {
         return Command::Back;
     }
-    if line == b"seal" {
+    if line == b"seal".as_slice() {
         return Command::Seal;
     }
-    if line == b"distance" {
+    if line == b"distance".as_slice() {
         return Command::Distance;
     }
-    if line == b"noise" {
+    if line == b"noise".as_slice() {
         return Command::Noise;
     }
     if let Some(word) = word_after(b"row ", line) {

@@ -1,4 +1,6 @@
 // What is read of lines and words, and printed of words, on examples.
+#![tactic(auto)]
+
 #[cfg(test)]
 mod commands;
 #[cfg(test)]

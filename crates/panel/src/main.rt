@@ -1,4 +1,6 @@
 // The panel: it reads commands, a line at a time, and answers each line before it reads the next.
+#![tactic(auto)]
+
 use notation::command::{Command, read_command};
 use notation::word::{LONGEST, spelled};
 use replies::Reply;

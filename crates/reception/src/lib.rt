@@ -1,4 +1,6 @@
 // Receptions: what was received of a word, as a cost for each place and symbol number, in layers.
+#![tactic(auto)]
+
 ghost use Rattle.std.specs.Prelude.{◌≡◌};
 ghost use Rattle.reception.specs.Costs.{Costs, Lawful};
 

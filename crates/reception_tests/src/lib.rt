@@ -1,4 +1,6 @@
 // Receptions on examples, at their edges and in piles.
+#![tactic(auto)]
+
 #[cfg(test)]
 mod even;
 #[cfg(test)]

@@ -1,4 +1,6 @@
 // Why a call is turned away: every cause, with its number and the value that is returned.
+#![tactic(auto)]
+
 ghost use Rattle.std.specs.Prelude.{◌≡◌};
 ghost use Rattle.refusal.specs.Refusals.{number, value};
 

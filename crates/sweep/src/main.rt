@@ -1,5 +1,7 @@
 // Compares decoding, coset leaders and the minimum distance with an exhaustive enumeration, over
 // hundreds of codes of each field, and tells how much was compared.
+#![tactic(auto)]
+
 use field::{Field, Four, Sixteen, Three, Two};
 use std::io;
 use sweeping::sweep_field;

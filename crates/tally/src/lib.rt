@@ -1,4 +1,6 @@
 // How many decodings were answered and how many were tied, and what the answered ones cost.
+#![tactic(auto)]
+
 ghost use Rattle.std.specs.Prelude.{◌+◌, ◌*◌, ◌≤◌};
 
 pub mod counting;

@@ -1,3 +1,5 @@
 // Tallies on examples.
+#![tactic(auto)]
+
 #[cfg(test)]
 mod tallies;

@@ -1,4 +1,6 @@
 // The cheapest words of a coset, by a dynamic programme over the places of a word.
+#![tactic(auto)]
+
 mod coset;
 mod scratch;
 mod shape;

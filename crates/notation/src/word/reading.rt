@@ -22,7 +22,7 @@ pub fn read_word(text: &[u8]) -> Option<Word>
     ensures { Only (Readable text.now) (option_map letters result) }
 {
     let mut cells = [0; LONGEST];
-    if text == b"-" {
+    if text == b"-".as_slice() {
         return Some(Word { cells, len: 0 });
     }
     if text.is_empty() || text.len() > LONGEST {

@@ -15,7 +15,7 @@ returns g c =
     let f = g.F.Field.ops in
     let l = g.F.Field.laws in
     let s = c.args.self.now in
-    let r = c.of-rows.result in
+    let r = c.of_rows.result in
     let n : size s ≡ min (size s) 24 = let a = s.short in omega arith in
     let k : min (count s) 24 ≡ count s = let a = s.few in let b = s.short in omega arith in
     let m : ℕ = Generators.dimension r in
@@ -23,7 +23,7 @@ returns g c =
     let at : ℕ → ℕ = Generators.places_of r in
     let cutform : ReducedForm f (count s) (λ i. cut f (size s) (cells s.rows i)) m ss at =
     subst (λ (x : ℕ). ReducedForm f (count s) (λ i. cut f x (cells s.rows i)) m ss at) (sym n)
-    (subst (λ (x : ℕ). ReducedForm f x (λ i. cut f (min (size s) 24) (cells s.rows i)) m ss at) k c.of-rows.ensures.form) in
+    (subst (λ (x : ℕ). ReducedForm f x (λ i. cut f (min (size s) 24) (cells s.rows i)) m ss at) k c.of_rows.ensures.form) in
     let form : ReducedForm f (count s) (rows_of f s) m ss at =
     form_same f l (count s) m (λ i. cut f (size s) (cells s.rows i)) (rows_of f s) ss at
     (λ i p h. elim (cases_lt p (size s)) [
@@ -31,7 +31,7 @@ returns g c =
       | inr b ↦ ends f l s i p h b ∙ sym (cut_past f (size s) (cells s.rows i) p b)
     ]) cutform in
     record {
-      long = c.of-rows.ensures.long ∙ sym n;
+      long = c.of_rows.ensures.long ∙ sym n;
       all = form_count f l (count s) m (rows_of f s) ss (pivots_of s) at (symbols_of f l s) (Systematics.symbols_of f l r) (triangular f l s) form;
       form = form;
       only = only_form f l (count s) (rows_of f s) (symbols_of f l s) m ss (Systematics.symbols_of f l r) at form;

@@ -32,7 +32,7 @@ loop-i-preserved g c =
     let at = pivots_of s in
     let w : ℕ → ℕ = cut f (size s) (word c.args.word.now) in
     let old = c.loop-i.rest in
-    let new = c.add-multiple.new.row in
+    let new = c.add_multiple.new.row in
     let v = word old in
     let row = get_or s.rows i [] in
     let by : ℕ → ℕ = word row in
@@ -42,7 +42,7 @@ loop-i-preserved g c =
     let symbol : x < f.order = rw factor (l.negative_symbol _ (so.symbols (at i))) in
     let wide : length row ≡ 24 = s.wide i (let a = s.few in let b = s.short in omega arith) in
     let is : (k : ℕ) → word new k ≡ f.sum (v k) (f.product (f.negative (v (at i))) (rs i k)) =
-    λ k. added_all f l old new row x symbol (omega arith) (omega arith) c.add-multiple.ensures k
+    λ k. added_all f l old new row x symbol (omega arith) (omega arith) c.add_multiple.ensures k
     ∙ ap (f.sum (v k)) (sym (product_as_symbol f l x (by k)) ∙ ap (λ y. f.product y (rs i k)) factor) in
     let negative : f.negative (v (at i)) < f.order = l.negative_symbol _ (so.symbols (at i)) in (
       omega arith,

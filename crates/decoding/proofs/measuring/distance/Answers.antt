@@ -4,6 +4,6 @@ use Rattle.decoding.proofs.measuring.distance.Goals as goal
 
 pub returns : goal.returns
 returns g c = record {
-  told = distance_found g.F.Field.ops g.F.Field.laws c.args.generator.now (length c.args.work.now) (Ok c.in-ok-found.found) c.in-ok-found.ensures.told;
-  work = c.in-ok-found.ensures.work;
+  told = distance_found g.F.Field.ops g.F.Field.laws c.args.generator.now (length c.args.work.now) (Ok c.in_ok-found.found) c.in_ok-found.ensures.told;
+  work = c.in_ok-found.ensures.work;
 }

@@ -13,11 +13,11 @@ returns g c =
     let gen = c.args.generator.now in
     let t = c.args.index in
     let w = word c.cheapest.new.word in
-    let least = c.in-ok-least.least in
+    let least = c.in_ok-least.least in
     let short : size gen ≤ 24 = gen.short in
     let all : c.length.result - 0 ≡ size gen = omega (arith, c.length.ensures) in
     let bytes : c.new-weights.result.bytes.now ≡ replicate (size gen) 0 = c.new-weights.ensures ∙ ap (λ k. take {A = ℕ} k (replicate 24 0)) all ∙ first_zeros (size gen) 24 short in
-    let h = c.in-ok-least.ensures in
+    let h = c.in_ok-least.ensures in
     let told = h.told in
     let found = told.1.1.1.1 in
     record {

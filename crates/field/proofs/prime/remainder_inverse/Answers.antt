@@ -13,8 +13,8 @@ found times a n m last e = rw last (cond-true _ _ _ (eq-eqb (times a m) 1 e))
 passed : (times : ℕ → ℕ → ℕ) (a n m : ℕ) → n ≡ suc m → (times a m ≡ 1 → ⊥) → inverse_below times a n ≡ inverse_below times a m
 passed times a n m last ne = rw last (cond-false _ _ _ (ne_eqb (times a m) 1 ne))
 
-pub overflow-mul-a : goal.overflow-mul-a
-overflow-mul-a c = let m = mul-lt c.args.a (c.loop-x.x - 1) 16 16 (omega arith) (omega arith) in omega arith
+pub overflow_mul-a : goal.overflow_mul-a
+overflow_mul-a c = let m = mul-lt c.args.a (c.loop-x.x - 1) 16 16 (omega arith) (omega arith) in omega arith
 
 pub returns-then-a-x-eq1 : goal.returns-then-a-x-eq1
 returns-then-a-x-eq1 c =

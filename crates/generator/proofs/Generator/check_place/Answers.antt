@@ -8,8 +8,8 @@ use Rattle.generator.proofs.Generator.check_place.Goals.{then-self-j, else-self-
 pub loop-j-init : goal.loop-j-init
 loop-j-init c = record { passed = 0; some = omega arith; is = omega arith; before = λ h b. absurd (omega arith); after = λ h b x. absurd (omega arith) }
 
-pub overflow-add-p : goal.overflow-add-p
-overflow-add-p c = let w = c.loop-j.invariant.some in let e = c.loop-j.invariant.is in omega arith
+pub overflow_add-p : goal.overflow_add-p
+overflow_add-p c = let w = c.loop-j.invariant.some in let e = c.loop-j.invariant.is in omega arith
 
 pub loop-j-preserved : goal.loop-j-preserved
 loop-j-preserved c =

@@ -14,8 +14,8 @@ loop-j-preserved g c =
     let j = c.loop-j.j in
     let v : ℕ → ℕ = λ i. f.negative (rows_of f s i c.args.place) in
     elim c.if-self-j.branch [
-      | then-self-j w ↦ w.symbol_is ∙ w.negative_symbol.ensures ∙ ap f.negative (w.symbol.ensures.0 c.loop-j-test.true) ∙ sym (information_new at v j c.args.p w.if-self-j.true)
-      | else-self-j w ↦ w.symbol_is ∙ c.loop-j.invariant ∙ sym (information_old at v j c.args.p w.if-self-j.false)
+      | then-self-j w ↦ w.symbol-is ∙ w.negative-symbol.ensures ∙ ap f.negative (w.symbol.ensures.0 c.loop-j-test.true) ∙ sym (information_new at v j c.args.p w.if-self-j.true)
+      | else-self-j w ↦ w.symbol-is ∙ c.loop-j.invariant ∙ sym (information_old at v j c.args.p w.if-self-j.false)
     ]
 
 pub returns-then-p-place : goal.returns-then-p-place

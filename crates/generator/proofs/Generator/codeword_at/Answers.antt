@@ -10,6 +10,6 @@ loop-j-preserved g c =
     let j = c.loop-j.j in
     let row = rows_of f c.args.self.now in
     let w = word c.args.message.now in
-    c.sum_sum.ensures
+    c.sum-sum.ensures
     ∙ ap₂ f.sum c.loop-j.invariant (c.product.ensures ∙ ap₂ f.product c.at.ensures (c.symbol.ensures.0 c.loop-j-test.true))
     ∙ sym (total_more f (λ i. f.product (w i) (row i c.args.p)) j)

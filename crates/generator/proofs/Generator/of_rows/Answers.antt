@@ -8,8 +8,8 @@ use Rattle.algebra.proofs.Forms.{only_form, first_place}
 use Rattle.generator.proofs.Framing.{kept_is, kept_ends, places_inside, rank_fits, kept_form}
 use Rattle.generator.proofs.Generator.of_rows.Goals as goal
 
-pub invariant-of-result : goal.invariant-of-result
-invariant-of-result g c =
+pub invariant_of-result : goal.invariant_of-result
+invariant_of-result g c =
     let f = g.F.Field.ops in
     let l = g.F.Field.laws in
     let start = c.framed-table.result in
@@ -30,34 +30,19 @@ invariant-of-result g c =
     let same = c.framed-rows.ensures.inner in
     let rest = c.framed-rows.ensures.below in
     let is = kept_is f l m n fits few old start rows kept rank at tall inner below done same rest in
-    let sys = done.form.reduced.systematic in (
-      fits,
-      (
-        rank_fits f l m n fits few old start rows kept rank at tall inner below done same rest,
-        (
-          c.framed-rows.ensures.lines,
-          (
-            c.framed-rows.ensures.wide,
-            (
-              search rules,
-              (
-                places_inside f l m n fits few old start rows kept rank at tall inner below done same rest,
-                (
-                  (λ i j h. sys.ascends i j h.0 h.1),
-                  (
-                    (λ i h. is i (at i) ∙ sys.own i h),
-                    (
-                      (λ i j h. is i (at j) ∙ sys.others i j h.0 h.1 h.2),
-                      (kept_ends f l m n fits few old start rows kept rank at tall inner below done same rest, tt),
-                    ),
-                  ),
-                ),
-              ),
-            ),
-          ),
-        ),
-      ),
-    )
+    let sys = done.form.reduced.systematic in
+    record {
+      short = fits;
+      few = rank_fits f l m n fits few old start rows kept rank at tall inner below done same rest;
+      lines = c.framed-rows.ensures.lines;
+      wide = c.framed-rows.ensures.wide;
+      listed = search rules;
+      inside = places_inside f l m n fits few old start rows kept rank at tall inner below done same rest;
+      ascends = λ i j h. sys.ascends i j h.0 h.1;
+      own = λ i h. is i (at i) ∙ sys.own i h;
+      others = λ i j h. is i (at j) ∙ sys.others i j h.0 h.1 h.2;
+      ends = kept_ends f l m n fits few old start rows kept rank at tall inner below done same rest;
+    }
 
 pub returns : goal.returns
 returns g c =

@@ -5,10 +5,10 @@ use Rattle.algebra.proofs.Syndromes.{index_more}
 use Rattle.generator.specs.Parts.{size, dimension, check_row_of, syndrome_of, ZeroExactly}
 use Rattle.generator.proofs.Systematics.{index_room, index_tells}
 use Rattle.generator.proofs.Generator.syndrome_index.Goals as goal
-use Rattle.generator.proofs.Generator.syndrome_index.Goals.{in-Some, in-default}
+use Rattle.generator.proofs.Generator.syndrome_index.Goals.{in-Some, in_default}
 
-pub overflow-mul-index : goal.overflow-mul-index
-overflow-mul-index g c =
+pub overflow_mul-index : goal.overflow_mul-index
+overflow_mul-index g c =
     let f = g.F.Field.ops in
     let s = c.args.self.now in
     let most = index_room f g.F.Field.laws s (word c.args.word.now) c.loop-i.i (omega arith) in
@@ -16,8 +16,8 @@ overflow-mul-index g c =
     ap₂ ◌*◌ c.loop-i.invariant (c.from.ensures ∙ c.order.ensures) in
     omega arith
 
-pub overflow-add-index : goal.overflow-add-index
-overflow-add-index g c =
+pub overflow_add-index : goal.overflow_add-index
+overflow_add-index g c =
     let f = g.F.Field.ops in
     let s = c.args.self.now in
     let w = word c.args.word.now in
@@ -25,7 +25,7 @@ overflow-add-index g c =
     let e : c.loop-i.index * c.from.result ≡ index f.order (syndrome_of f s w) c.loop-i.i * f.order = ap₂ ◌*◌ c.loop-i.invariant (c.from.ensures ∙ c.order.ensures) in
     let place = c.in-Some.ensures in
     let d : c.from-in-Some.result ≡ syndrome_of f s w c.loop-i.i =
-    c.from-in-Some.ensures ∙ c.syndrome-symbol-symbol.ensures ∙ ap (λ p. total f (λ k. f.product (w k) (check_row_of f s p k)) (size s)) place.2 in
+    c.from-in-Some.ensures ∙ c.syndrome_symbol-symbol.ensures ∙ ap (λ p. total f (λ k. f.product (w k) (check_row_of f s p k)) (size s)) place.2 in
     omega arith
 
 pub loop-i-preserved : goal.loop-i-preserved
@@ -34,13 +34,13 @@ loop-i-preserved g c =
     let s = c.args.self.now in
     let w = word c.args.word.now in
     let few = s.few in
-    elim c.match-check-place.branch [
+    elim c.match-check_place.branch [
       | in-Some x ↦
           let place = x.in-Some.ensures in
           let d : x.from-in-Some.result ≡ syndrome_of f s w c.loop-i.i =
-          x.from-in-Some.ensures ∙ x.syndrome-symbol-symbol.ensures ∙ ap (λ p. total f (λ k. f.product (w k) (check_row_of f s p k)) (size s)) place.2 in
+          x.from-in-Some.ensures ∙ x.syndrome_symbol-symbol.ensures ∙ ap (λ p. total f (λ k. f.product (w k) (check_row_of f s p k)) (size s)) place.2 in
           x.index-is ∙ ap₂ ◌+◌ (ap₂ ◌*◌ c.loop-i.invariant (x.from.ensures ∙ x.order.ensures)) d ∙ sym (index_more f.order (syndrome_of f s w) c.loop-i.i)
-      | in-default x ↦ absurd (omega (arith, x.in-default.ensures))
+      | in_default x ↦ absurd (omega (arith, x.in_default.ensures))
     ]
 
 pub returns : goal.returns

@@ -22,8 +22,8 @@ loop-h-preserved g c =
           let symbol : w.negative-factor.result < f.order = rw factor (l.negative_symbol _ (c.requires.1.1 h p)) in
           let long : length (get_or rows h []) ≡ length (get_or old i []) = ap length same ∙ c.told-rows h (omega arith) ∙ sym (c.told-rows i (omega arith)) in
           subst P (sym w.rows-is)
-          (clearing_more f old rows i p h c.loop-h.invariant w.add-multiple.new.row w.if-h-i.true (omega arith)
-          (λ k. added_all f l (get_or rows h []) w.add-multiple.new.row (get_or old i []) w.negative-factor.result symbol (omega arith) (omega arith) w.add-multiple.ensures k
+          (clearing_more f old rows i p h c.loop-h.invariant w.add_multiple.new.row w.if-h-i.true (omega arith)
+          (λ k. added_all f l (get_or rows h []) w.add_multiple.new.row (get_or old i []) w.negative-factor.result symbol (omega arith) (omega arith) w.add_multiple.ensures k
           ∙ ap₂ (λ r x. f.sum (word r k) (f.product x (cells old i k))) same factor))
       | else-h-i w ↦ subst P (sym w.rows-is) (clearing_skip f old rows i p h c.loop-h.invariant w.if-h-i.false)
     ]

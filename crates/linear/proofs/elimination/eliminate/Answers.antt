@@ -19,8 +19,8 @@ loop-found-preserved g c =
     let at = c.in-Some.ensures in
     let here : Progress f m (cells old) (cells rows) rank p (word places) =
     progress_on f l m (cells old) (cells rows) (cells rows) rank c.loop-found.place (word places) c.loop-found.invariant.2 p at.0 (λ i k h b x y. at.5 k x y i b (omega arith)) in
-    let N : ℕ → Type 0 = λ n. Pivots f n (cells rows) (cells c.make-pivot.new.rows) rank p in
-    let step : Pivots f m (cells rows) (cells c.make-pivot.new.rows) rank p = subst N c.loop-found.auto.rows c.make-pivot.ensures in
+    let N : ℕ → Type 0 = λ n. Pivots f n (cells rows) (cells c.make_pivot.new.rows) rank p in
+    let step : Pivots f m (cells rows) (cells c.make_pivot.new.rows) rank p = subst N c.loop-found.auto.rows c.make_pivot.ensures in
     let room : rank < length places = let n = here.counted in let b = at.1 in omega arith in (
       length-set places rank p ∙ c.loop-found.invariant.0,
       (let b = at.1 in omega arith),
@@ -35,7 +35,7 @@ returns g c =
     let rows = c.loop-found.rows in
     let rank = c.loop-found.rank in
     let at = word c.loop-found.places in
-    let none = c.in-default.ensures in
+    let none = c.in_default.ensures in
     let all : Progress f (length old) (cells old) (cells rows) rank 24 at =
     progress_on f l (length old) (cells old) (cells rows) (cells rows) rank c.loop-found.place at c.loop-found.invariant.2 24 c.loop-found.invariant.1 (λ i k h b x y. none k x y i b (omega arith)) in
     progress_end f l (length old) (cells old) (cells rows) (cells rows) rank 24 at all (λ i k h. cells_past old 24 c.told-rows i k h)

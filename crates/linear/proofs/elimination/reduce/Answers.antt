@@ -6,7 +6,7 @@ use Rattle.algebra.proofs.Forms.{reduction_of, only_form, first_place}
 use Rattle.linear.proofs.elimination.reduce.Goals as goal
 
 pub eliminate-requires : goal.eliminate-requires
-eliminate-requires g c κs i k = rw (c.as-symbols.ensures i k) (symbol_rows g.F.Field.ops g.F.Field.laws c.args.rows.now i k)
+eliminate-requires g c i k = rw (c.as_symbols.ensures i k) (symbol_rows g.F.Field.ops g.F.Field.laws c.args.rows.now i k)
 
 pub returns : goal.returns
 returns g c =
@@ -18,7 +18,7 @@ returns g c =
     let rank = c.eliminate.result.rank in
     let at = word c.eliminate.result.places in
     let all : Reduction f 24 m start rs rank at =
-    reduction_of f l 24 (length c.as-symbols.new.rows) m (cells c.as-symbols.new.rows) start rs rank at (omega arith) c.as-symbols.ensures c.eliminate.ensures in
+    reduction_of f l 24 (length c.as_symbols.new.rows) m (cells c.as_symbols.new.rows) start rs rank at (omega arith) c.as_symbols.ensures c.eliminate.ensures in
     record {
       form = all;
       only = only_form f l m start (symbol_rows f l c.args.rows.now) rank rs all.symbols at all.form;

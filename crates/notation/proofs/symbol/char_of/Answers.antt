@@ -15,5 +15,5 @@ returns-in-10-to-15 c =
     let w : Writes (97 + (v - 10)) v = letter_writes (97 + (v - 10)) v (omega arith) (omega arith) (omega arith) in
     (w, λ d h. one_character (97 + (v - 10)) d v w h)
 
-pub returns-in-default : goal.returns-in-default
-returns-in-default c = λ d h. omega (arith, ranges d c.args.symbol h)
+pub returns-in_default : goal.returns-in_default
+returns-in_default c = λ d h. omega (arith, ranges d c.args.symbol h)

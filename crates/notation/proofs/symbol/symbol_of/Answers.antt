@@ -15,11 +15,11 @@ returns-in-a-to-f c =
     let w : Writes x (x - 97 + 10) = letter_writes x (x - 97 + 10) (omega arith) (omega arith) (omega arith) in
     (w, λ u h. one_symbol x (x - 97 + 10) u w h)
 
-pub returns-in-default : goal.returns-in-default
-returns-in-default c = λ u h. omega (arith, ranges c.args.c u h)
+pub returns-in_default : goal.returns-in_default
+returns-in_default c = λ u h. omega (arith, ranges c.args.c u h)
 
-pub returns-in-default·2 : goal.returns-in-default·2
-returns-in-default·2 c = λ u h. omega (arith, ranges c.args.c u h)
+pub returns-in_default-2 : goal.returns-in_default-2
+returns-in_default-2 c = λ u h. omega (arith, ranges c.args.c u h)
 
-pub returns-in-default·3 : goal.returns-in-default·3
-returns-in-default·3 c = λ u h. omega (arith, ranges c.args.c u h)
+pub returns-in_default-3 : goal.returns-in_default-3
+returns-in_default-3 c = λ u h. omega (arith, ranges c.args.c u h)

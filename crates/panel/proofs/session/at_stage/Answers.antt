@@ -13,12 +13,12 @@ pub returns-in-Row : goal.returns-in-Row
 returns-in-Row g c =
     let f = g.F.Field.ops in
     let d = c.in-Open.draft in
-    let e = c.push-row.new.self in
-    let a = c.push-row.result in
+    let e = c.push_row.new.self in
+    let a = c.push_row.result in
     let was = c.args.work.now in
     let W : List ℕ → Type 0 = λ w. Turns f (basis_of d) (λ s. RowPushed f s w) (λ s. after_push s w) a (basis_of e) in
     let P : Stage g.row.F.Denot → Command → Type 0 = λ s k. AtStage f s k was (Open e) c.counted-reply.result was in
-    subst₂ P (sym c.in-Open.is) (sym c.in-Row.is) ((e, a, refl, c.counted-reply.ensures, subst W c.symbols.ensures c.push-row.ensures.told), refl)
+    subst₂ P (sym c.in-Open.is) (sym c.in-Row.is) ((e, a, refl, c.counted-reply.ensures, subst W c.symbols.ensures c.push_row.ensures.told), refl)
 
 pub returns-in-Back : goal.returns-in-Back
 returns-in-Back g c =

@@ -41,27 +41,27 @@ shaped f l s h c eq ec dh dl eh el few =
       few_lows = rw lower (few_low q h.high_digits h.low_digits (zero_symbol l) (omega arith) small);
     }
 
-pub returns-in-err-lows : goal.returns-in-err-lows
-returns-in-err-lows g c =
+pub returns-in_err-lows : goal.returns-in_err-lows
+returns-in_err-lows g c =
     let n : ℕ = c.length.result - c.dimension.result in
-    rw c.from-residual.ensures
-    (too_many g.F.Field.ops g.F.Field.laws c.args.generator.now c.order-order.result n (n / 2) c.order-order.ensures (ap₂ ◌-◌ c.length.ensures c.dimension.ensures) (omega arith) c.in-err-lows.ensures)
+    rw c.from_residual.ensures
+    (too_many g.F.Field.ops g.F.Field.laws c.args.generator.now c.order-order.result n (n / 2) c.order-order.ensures (ap₂ ◌-◌ c.length.ensures c.dimension.ensures) (omega arith) c.in_err-lows.ensures)
 
-pub returns-in-err-highs : goal.returns-in-err-highs
-returns-in-err-highs g c =
+pub returns-in_err-highs : goal.returns-in_err-highs
+returns-in_err-highs g c =
     let n : ℕ = c.length.result - c.dimension.result in
-    rw c.from-residual-in-err-highs.ensures
-    (too_many g.F.Field.ops g.F.Field.laws c.args.generator.now c.order-order.result n (n - n / 2) c.order-order.ensures (ap₂ ◌-◌ c.length.ensures c.dimension.ensures) (omega arith) c.in-err-highs.ensures)
+    rw c.from_residual-in_err-highs.ensures
+    (too_many g.F.Field.ops g.F.Field.laws c.args.generator.now c.order-order.result n (n - n / 2) c.order-order.ensures (ap₂ ◌-◌ c.length.ensures c.dimension.ensures) (omega arith) c.in_err-highs.ensures)
 
 pub returns-then-highs-lows-gt4096 : goal.returns-then-highs-lows-gt4096
 returns-then-highs-lows-gt4096 g c =
     let n : ℕ = c.length.result - c.dimension.result in
     let many = c.if-highs-lows-gt4096.true in
-    rw (← states_are g.F.Field.ops c.args.generator.now c.order-order.result n c.in-ok-highs.highs c.in-ok-lows.lows c.order-order.ensures
-    (ap₂ ◌-◌ c.length.ensures c.dimension.ensures) c.in-ok-highs.ensures.0 c.in-ok-lows.ensures.0) many
+    rw (← states_are g.F.Field.ops c.args.generator.now c.order-order.result n c.in_ok-highs.highs c.in_ok-lows.lows c.order-order.ensures
+    (ap₂ ◌-◌ c.length.ensures c.dimension.ensures) c.in_ok-highs.ensures.0 c.in_ok-lows.ensures.0) many
 
 pub returns : goal.returns
 returns g c =
     let n : ℕ = c.length.result - c.dimension.result in
     shaped g.F.Field.ops g.F.Field.laws c.args.generator.now _ n c.order-order.ensures (ap₂ ◌-◌ c.length.ensures c.dimension.ensures) refl refl
-    c.in-ok-highs.ensures.0 c.in-ok-lows.ensures.0 c.if-highs-lows-gt4096.false
+    c.in_ok-highs.ensures.0 c.in_ok-lows.ensures.0 c.if-highs-lows-gt4096.false

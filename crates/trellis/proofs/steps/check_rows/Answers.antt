@@ -6,7 +6,7 @@ use Rattle.algebra.proofs.Cells.{cells_set_same, cells_set_other}
 use Rattle.generator.specs.Parts.{size, check_row_of}
 use Rattle.cosets.specs.States.{column_at}
 use Rattle.trellis.proofs.steps.check_rows.Goals as goal
-use Rattle.trellis.proofs.steps.check_rows.Goals.{in-Some, in-default}
+use Rattle.trellis.proofs.steps.check_rows.Goals.{in-Some, in_default}
 
 pub loop-i-preserved : goal.loop-i-preserved
 loop-i-preserved g c =
@@ -15,7 +15,7 @@ loop-i-preserved g c =
     let i = c.loop-i.i in
     let rows = c.loop-i.rows in
     let P : List (List ℕ) → Type 0 = λ r. (length r ≡ 24) × ((j p : ℕ) → j < i + 1 → p < size s → cells r j p ≡ column_at f s p j) in
-    elim c.match-check-place.branch [
+    elim c.match-check_place.branch [
       | in-Some w ↦ subst P (sym w.rows-is) (
         length-set rows i _ ∙ c.loop-i.invariant.0,
         (λ j p h b. elim (cases_eq j i) [
@@ -25,5 +25,5 @@ loop-i-preserved g c =
           | inr n ↦ cells_set_other rows i _ j p n ∙ c.loop-i.invariant.1 j p (omega arith) b
         ]),
       )
-      | in-default w ↦ absurd (omega (arith, w.in-default.ensures))
+      | in_default w ↦ absurd (omega (arith, w.in_default.ensures))
     ]

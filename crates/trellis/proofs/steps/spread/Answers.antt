@@ -7,8 +7,8 @@ use Rattle.trellis.proofs.steps.spread.Goals as goal
 small : (g : given.Over) (c : goal.After-sum g) → c.sum.result * c.args.unit ≤ g.F.Field.ops.order * c.args.unit
 small g c = mul-le-mul_right c.args.unit (omega (arith, sum_closed g.F.Field.ops g.F.Field.laws c.loop-y.y c.args.added, c.sum.ensures))
 
-pub overflow-mul-out : goal.overflow-mul-out
-overflow-mul-out g c = omega (arith, small g c)
+pub overflow_mul-out : goal.overflow_mul-out
+overflow_mul-out g c = omega (arith, small g c)
 
-pub overflow-add-out : goal.overflow-add-out
-overflow-add-out g c = omega (arith, small g c)
+pub overflow_add-out : goal.overflow_add-out
+overflow_add-out g c = omega (arith, small g c)

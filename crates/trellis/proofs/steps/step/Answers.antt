@@ -48,14 +48,14 @@ loop-i-init g c =
     let none : digits - digits ≡ 0 = omega arith in
     (omega arith, sym (ap (λ d. q ^ d) none ∙ pow-zero q))
 
-pub overflow-mul-to : goal.overflow-mul-to
-overflow-mul-to g c = omega (arith, small g c)
+pub overflow_mul-to : goal.overflow_mul-to
+overflow_mul-to g c = omega (arith, small g c)
 
-pub overflow-add-to : goal.overflow-add-to
-overflow-add-to g c = omega (arith, small g c)
+pub overflow_add-to : goal.overflow_add-to
+overflow_add-to g c = omega (arith, small g c)
 
-pub overflow-mul-unit : goal.overflow-mul-unit
-overflow-mul-unit g c =
+pub overflow_mul-unit : goal.overflow_mul-unit
+overflow_mul-unit g c =
     let digits = c.args.digits in
     omega (arith, units g c, pow-le-pow_right (zero_symbol g.F.Field.laws) {i = digits - (c.loop-i.i - 1)} {j = digits} (omega arith))
 

@@ -33,8 +33,8 @@ widen-requires g c =
           rw (c.loop-d.invariant.1 u below) (step_small f l column d c.args.digits u c.args.x c.args.unit c.loop-d-test.true c.requires.small);
     }
 
-pub overflow-mul-count : goal.overflow-mul-count
-overflow-mul-count g c =
+pub overflow_mul-count : goal.overflow_mul-count
+overflow_mul-count g c =
     let f = g.F.Field.ops in
     let d = c.loop-d.d in
     let is : c.loop-d.count * c.order.result ≡ f.order ^ d * f.order = ap₂ (λ a b. a * b) c.loop-d.invariant.0 c.order.ensures in

@@ -4,8 +4,8 @@ use Rattle.algebra.proofs.Symbols.{zero_symbol}
 use Rattle.trellis.proofs.Stepping.{at_least, later}
 use Rattle.trellis.proofs.steps.widen.Goals as goal
 
-pub offset-bounds-out-u : goal.offset-bounds-out-u
-offset-bounds-out-u g c = omega (arith, at_least g.F.Field.ops.order c.args.count (zero_symbol g.F.Field.laws))
+pub offset_bounds-out-u : goal.offset_bounds-out-u
+offset_bounds-out-u g c = omega (arith, at_least g.F.Field.ops.order c.args.count (zero_symbol g.F.Field.laws))
 
 pub bounds-out-u : goal.bounds-out-u
 bounds-out-u g c = omega (arith, at_least g.F.Field.ops.order c.args.count (zero_symbol g.F.Field.laws))

@@ -18,8 +18,8 @@ loop-x-preserved g c =
     let both : (p : ℕ × ℕ) → better least count (cost x) (ways x) ≡ p → c.if-more-ne0.least ≡ p.0 → c.if-more-ne0.count ≡ p.1 → (c.if-more-ne0.least ≡ next.0) × (c.if-more-ne0.count ≡ next.1) = λ p e a b.
     let is = sym e ∙ step in (a ∙ ap (λ r. r.0) is, b ∙ ap (λ r. r.1) is) in
     elim c.if-more-ne0.branch [
-      | then-more-ne0+then-cost-least w ↦ both (cost x, ways x) (better_new least count (cost x) (ways x) w.if-more-ne0.true (⊎_elim inl (λ h. inr h.1) w.if-cost-least.either)) w.least_is w.count-is
-      | then-more-ne0+else-cost-least+then-cost-least-2 w ↦ both (least, 2) (better_tied least count (cost x) (ways x) w.if-more-ne0.true w.if-cost-least.false.0 w.if-cost-least-2.true) w.least_is w.count-is
-      | then-more-ne0+else-cost-least+else-cost-least-2 w ↦ both (least, count) (better_old least count (cost x) (ways x) w.if-more-ne0.true w.if-cost-least.false.0 (omega (arith, w.if-cost-least.false.1, w.if-cost-least-2.false))) w.least_is w.count-is
-      | else-more-ne0 w ↦ both (least, count) (better_none least count (cost x) (ways x) w.if-more-ne0.false) w.least_is w.count-is
+      | then-more-ne0+then-cost-least w ↦ both (cost x, ways x) (better_new least count (cost x) (ways x) w.if-more-ne0.true (⊎_elim inl (λ h. inr h.1) w.if-cost-least.either)) w.least-is w.count-is
+      | then-more-ne0+else-cost-least+then-cost-least-2 w ↦ both (least, 2) (better_tied least count (cost x) (ways x) w.if-more-ne0.true w.if-cost-least.false.0 w.if-cost-least-2.true) w.least-is w.count-is
+      | then-more-ne0+else-cost-least+else-cost-least-2 w ↦ both (least, count) (better_old least count (cost x) (ways x) w.if-more-ne0.true w.if-cost-least.false.0 (omega (arith, w.if-cost-least.false.1, w.if-cost-least-2.false))) w.least-is w.count-is
+      | else-more-ne0 w ↦ both (least, count) (better_none least count (cost x) (ways x) w.if-more-ne0.false) w.least-is w.count-is
     ]

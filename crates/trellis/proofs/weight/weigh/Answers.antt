@@ -14,7 +14,7 @@ returns-then-ways-eq0 g c =
     let short : size gen ≤ 24 = gen.short in
     let all : c.length.result - 0 ≡ size gen = omega (arith, c.length.ensures) in
     let bytes = c.new-weights.ensures ∙ ap (λ k. take {A = ℕ} k (replicate 24 0)) all ∙ first_zeros (size gen) 24 short in
-    let is = c.least-other-cost.ensures ∙ ap (λ w. best_other (trellis_of f gen (hard_word w) 0) (size gen) 0) bytes in
+    let is = c.least_other-cost.ensures ∙ ap (λ w. best_other (trellis_of f gen (hard_word w) 0) (size gen) 0) bytes in
     lightest_none f g.F.Field.laws gen (sym (ap (λ r. r.1) is) ∙ c.if-ways-eq0.true)
 
 pub returns-else-ways-eq0 : goal.returns-else-ways-eq0
@@ -24,6 +24,6 @@ returns-else-ways-eq0 g c =
     let short : size gen ≤ 24 = gen.short in
     let all : c.length.result - 0 ≡ size gen = omega (arith, c.length.ensures) in
     let bytes = c.new-weights.ensures ∙ ap (λ k. take {A = ℕ} k (replicate 24 0)) all ∙ first_zeros (size gen) 24 short in
-    let is = c.least-other-cost.ensures ∙ ap (λ w. best_other (trellis_of f gen (hard_word w) 0) (size gen) 0) bytes in
+    let is = c.least_other-cost.ensures ∙ ap (λ w. best_other (trellis_of f gen (hard_word w) 0) (size gen) 0) bytes in
     let some : 0 < (best_other (trellis_of f gen (weights gen) 0) (size gen) 0).1 = omega (arith, ap (λ r. r.1) is, c.if-ways-eq0.false) in
     subst (λ d. Lightest f gen (Some d)) (sym (ap (λ r. r.0) is)) (lightest_some f g.F.Field.laws gen some)

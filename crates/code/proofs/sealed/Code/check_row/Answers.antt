@@ -3,10 +3,10 @@ use Rattle.generator.specs.Parts.{size, check_row_of}
 use Rattle.code.proofs.Checking.{check_row_read}
 use Rattle.code.proofs.sealed.Code.check_row.Goals as goal
 
-pub returns-in-default : goal.returns-in-default
-returns-in-default g c =
+pub returns-in_default : goal.returns-in_default
+returns-in_default g c =
     let room : length c.args.out.now ≡ size c.args.self.now.generator = c.if-out-n.false ∙ c.length-n.ensures in
-    let past = c.in-default.ensures in
+    let past = c.in_default.ensures in
     record {
       told = inr ((λ n. n room), inl (omega arith, refl, ap₂ (λ a b. Some (a - b)) c.length-n.ensures c.dimension.ensures));
       kept = refl;

@@ -8,7 +8,7 @@ returns g c =
     let f = g.F.Field.ops in
     let m = c.args.message.now in
     let code = c.args.self.now.generator in
-    let good : (k : ℕ) → k < length m → get_or m k 0 < f.order = c.in-default.ensures in
+    let good : (k : ℕ) → k < length m → get_or m k 0 < f.order = c.in_default.ensures in
     let long : length m ≡ dimension code = c.if-message-k.false ∙ c.dimension-k.ensures in
     let room : length c.args.out.now ≡ size code = c.if-out-n.false ∙ c.length-n.ensures in
     record {

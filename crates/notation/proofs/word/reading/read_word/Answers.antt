@@ -11,30 +11,30 @@ use Rattle.notation.proofs.word.reading.read_word.Goals as goal
 use Rattle.std.proofs.lemmas.Bool.Decides.{Decides-eqb}
 
 pub returns-then-eq : goal.returns-then-eq
-returns-then-eq c = reads_dash c.args.text.now ((slice_eq-Decides Decides-eqb _ _ _ c.eq.ensures).0 c.if-eq.true)
+returns-then-eq c = reads_dash c.args.text.now ((slice_eq-Decides Decides-eqb _ _ _ c.eq.ensures).0 c.if-eq.true ∙ c.as_slice.ensures)
 
-pub returns-then-is-empty : goal.returns-then-is-empty
-returns-then-is-empty c =
+pub returns-then-is_empty : goal.returns-then-is_empty
+returns-then-is_empty c =
     let text = c.args.text.now in
-    let other : text ≡ codes "-" → ⊥ = λ e. both_ways _ c.if-eq.false ((slice_eq-Decides Decides-eqb _ _ _ c.eq.ensures).1 e) in
+    let other : text ≡ codes "-" → ⊥ = λ e. both_ways _ c.if-eq.false ((slice_eq-Decides Decides-eqb _ _ _ c.eq.ensures).1 (e ∙ sym c.as_slice.ensures)) in
     let out : (length text ≡ 0) ⊎ (80 < length text) =
-    elim c.then-is-empty.either [
-      | inl e ↦ inl (eqb-true (length text) 0 (sym c.is-empty.ensures ∙ e))
+    elim c.then-is_empty.either [
+      | inl e ↦ inl (eqb-true (length text) 0 (sym c.is_empty.ensures ∙ e))
       | inr p ↦ inr p.1
     ] in
     reads_no_length text other out
 
-pub returns-in-err-cells : goal.returns-in-err-cells
-returns-in-err-cells c =
+pub returns-in_err-cells : goal.returns-in_err-cells
+returns-in_err-cells c =
     let text = c.args.text.now in
-    let other : text ≡ codes "-" → ⊥ = λ e. both_ways _ c.if-eq.false ((slice_eq-Decides Decides-eqb _ _ _ c.eq.ensures).1 e) in
-    subst (λ (o : Option Word). Only (Readable text) (option_map letters o)) (sym c.from-residual.ensures)
-    (reads_no_symbol text c.loop-i.i other (omega arith) c.in-err-cells.ensures)
+    let other : text ≡ codes "-" → ⊥ = λ e. both_ways _ c.if-eq.false ((slice_eq-Decides Decides-eqb _ _ _ c.eq.ensures).1 (e ∙ sym c.as_slice.ensures)) in
+    subst (λ (o : Option Word). Only (Readable text) (option_map letters o)) (sym c.from_residual.ensures)
+    (reads_no_symbol text c.loop-i.i other (omega arith) c.in_err-cells.ensures)
 
 pub returns : goal.returns
 returns c =
     let text = c.args.text.now in
-    let some : (length text ≡ 0 → ⊥) = eqb-false (length text) 0 (sym c.is-empty.ensures ∙ c.if-is-empty.false) in
+    let some : (length text ≡ 0 → ⊥) = eqb-false (length text) 0 (sym c.is_empty.ensures ∙ c.if-is_empty.false) in
     let positive : 0 < length text = omega arith in
     reads_cells text c.loop-i.cells positive (omega arith) c.loop-i.invariant.0
     (λ i h. c.loop-i.invariant.1 i (omega arith))

@@ -8,11 +8,11 @@ pub loop-k-preserved : goal.loop-k-preserved
 loop-k-preserved g c =
     let bytes : List ℕ = c.args.bytes.now in
     let k : ℕ = c.loop-k.k in
-    let span : Span = c.pair-at-span.result in (
+    let span : Span = c.pair_at-span.result in (
       simp length-set c.loop-k.invariant.0,
-      c.end-end.ensures ∙ ap span_end c.pair-at-span.ensures ∙ sym (end_ahead_more bytes k),
-      keeps_more _ bytes k span c.pair-at-span.ensures c.loop-k.invariant.2 c.if-span-eq0.false (omega arith) (omega (arith, c.end-end.ensures, c.len-size.ensures)),
-      written_more bytes k c.loop-k.spans span c.pair-at-span.ensures (omega arith) c.loop-k.invariant.3,
+      c.end-end.ensures ∙ ap span_end c.pair_at-span.ensures ∙ sym (end_ahead_more bytes k),
+      keeps_more _ bytes k span c.pair_at-span.ensures c.loop-k.invariant.2 c.if-span-eq0.false (omega arith) (omega (arith, c.end-end.ensures, c.len-size.ensures)),
+      written_more bytes k c.loop-k.spans span c.pair_at-span.ensures (omega arith) c.loop-k.invariant.3,
     )
 
 pub returns : goal.returns
