@@ -1,5 +1,5 @@
 -- What a table and a traced word say of a coset.
-use Rattle.std.proofs.Common.{◌≡◌, ℕ, zero, suc, ◌<◌, ◌≤◌, false, eqb, ◌⊎◌, List, length, sym, ap, ◌∙◌, inl, inr, ⊎_elim, arith}
+use Rattle.std.proofs.Common.{◌≡◌, ℕ, zero, suc, ◌<◌, false, eqb, ◌⊎◌, List, length, sym, ap, ◌∙◌, inl, inr, ⊎_elim, arith}
 use Rattle.std.proofs.lemmas.Bool.{ne_eqb}
 use Rattle.field.specs.Field.{Ops, Laws}
 use Rattle.algebra.specs.Words.{word}
@@ -8,14 +8,14 @@ use Rattle.generator.specs.Parts.{size}
 use Rattle.cosets.specs.States.{cosets}
 use Rattle.cosets.specs.Cosets.{Coset}
 use Rattle.cosets.proofs.Codewords.{coset_some}
-use Rattle.reception.specs.Costs.{Costs, word_cost}
+use Rattle.reception.specs.Costs.{Costs}
 use Rattle.least.specs.Paths.{Trellis, Leads, path_cost}
 use Rattle.least.specs.Least.{best}
 use Rattle.least.proofs.Telling.{Tells}
 use Rattle.least.proofs.Recursion.{best_tells, some_way, no_less}
 use Rattle.least.proofs.Tracing.{Before}
 use Rattle.cheapest.specs.Trellises.{trellis_of}
-use Rattle.cheapest.specs.Cheapest.{Same, Smaller, Cheapest, Sole}
+use Rattle.cheapest.specs.Cheapest.{Same, Cheapest, Sole}
 use Rattle.cheapest.proofs.Wording.{listed, listed_word, leads_long, word_leads, leads_word, listed_cost, path_word}
 
 module _ (f : Ops) (l : Laws f) (g : Generator) (costs : Costs) (target : ℕ) where

@@ -41,7 +41,6 @@ impl<F: Field> Code<F> {
         ensures told { LeaderFound F.Field.ops self.now.generator index (length work.old) (length out.old) out.new result }
         ensures work { MatchResult result (λ _. Cleared work.new) (λ _. work.new ≡ work.old) }
         ensures out { OnErr result (out.new ≡ out.old) }
-        ensures same { self.now ≡ self.now }
     {
         decoding::leader::<F>(&self.generator, index, work, out)
     }
@@ -51,7 +50,6 @@ impl<F: Field> Code<F> {
     pub fn distance(&self, work: &mut [u32]) -> Result<Option<u32>, Refusal>
         ensures told { DistanceFound F.Field.ops self.now.generator (length work.old) result }
         ensures work { MatchResult result (λ _. Cleared work.new) (λ _. work.new ≡ work.old) }
-        ensures same { self.now ≡ self.now }
     {
         decoding::distance::<F>(&self.generator, work)
     }
@@ -66,7 +64,6 @@ impl<F: Field> Code<F> {
     // What an answered decoding cost on the average, in thousandths.
     pub fn noise_figure(&self) -> Result<u64, Refusal>
         ensures told { FigureTold (counts_of self.now.tally) result }
-        ensures same { self.now ≡ self.now }
     {
         self.tally.noise_figure()
     }

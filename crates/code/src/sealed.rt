@@ -61,7 +61,6 @@ impl<F: Field> Code<F> {
     pub fn encode(&self, message: &[u8], out: &mut [u8]) -> Result<(), Refusal>
         ensures told { MessageEncoded F.Field.ops self.now.generator message.now (length out.old) out.new result }
         ensures kept { OnErr result (out.new ≡ out.old) }
-        ensures same { self.now ≡ self.now }
     {
         let k = self.generator.dimension();
         if message.len() != k {
@@ -82,7 +81,6 @@ impl<F: Field> Code<F> {
     pub fn reduced_row(&self, i: usize, out: &mut [u8]) -> Result<usize, Refusal>
         ensures told { ReducedRead F.Field.ops self.now.generator i (length out.old) out.new result }
         ensures kept { OnErr result (out.new ≡ out.old) }
-        ensures same { self.now ≡ self.now }
     {
         let n = self.generator.length();
         if out.len() != n {
@@ -102,7 +100,6 @@ impl<F: Field> Code<F> {
     pub fn check_row(&self, i: usize, out: &mut [u8]) -> Result<(), Refusal>
         ensures told { CheckRead F.Field.ops self.now.generator i (length out.old) out.new result }
         ensures kept { OnErr result (out.new ≡ out.old) }
-        ensures same { self.now ≡ self.now }
     {
         let n = self.generator.length();
         if out.len() != n {

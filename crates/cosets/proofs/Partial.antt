@@ -7,7 +7,6 @@ use Rattle.algebra.proofs.Totals.{total_symbol}
 use Rattle.algebra.proofs.Cells.{product_closed}
 use Rattle.algebra.proofs.Syndromes.{zero_index}
 use Rattle.generator.specs.declared.Generator.{Generator}
-use Rattle.generator.specs.Parts.{size}
 use Rattle.cosets.specs.States.{checks, cosets, column_at, next}
 use Rattle.cosets.proofs.States.{moved_below, moved_index, moved_zero}
 

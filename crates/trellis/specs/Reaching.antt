@@ -1,5 +1,5 @@
 -- The least cost from a state over all symbols, as it is read off the row of the place after it.
-use Rattle.std.specs.Prelude.{◌≡◌, ℕ, ◌+◌, ◌*◌, ◌<◌, ◌≤◌, List, length, slice_index}
+use Rattle.std.specs.Prelude.{ℕ, ◌+◌, ◌<◌, ◌≤◌, List, length, slice_index}
 use Rattle.algebra.specs.Words.{cells}
 use Rattle.reception.specs.Costs.{Costs}
 use Rattle.least.specs.Least.{best_of, zero_apart}

@@ -1,5 +1,5 @@
 -- What the calls of this crate answer and leave.
-use Rattle.std.specs.Prelude.{◌≡◌, ℕ, ◌≤◌, List, Some, Option, Result, ◌≢◌}
+use Rattle.std.specs.Prelude.{ℕ, ◌≤◌, List, Some, Option, Result, ◌≢◌}
 use Rattle.refusal.specs.declared.Refusal.{Refusal}
 use Rattle.refusal.specs.Refusals.{accepted, refused_if}
 use Rattle.field.specs.Field.{Ops}

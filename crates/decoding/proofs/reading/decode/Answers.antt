@@ -1,12 +1,12 @@
-use Rattle.std.proofs.Common.{◌≡◌, ℕ, ◌<◌, ◌≤◌, true, false, length, get_or, sym, refl, ap, ◌∙◌, subst, inl, inr, ⊎_elim, arith}
+use Rattle.std.proofs.Common.{◌≡◌, ℕ, ◌<◌, ◌≤◌, length, sym, refl, ◌∙◌, subst, inl, inr, ⊎_elim, arith}
 use Rattle.std.proofs.lemmas.List.{length-take, get_or_append_left}
 use Rattle.std.proofs.lemmas.Bool.{not-true, not-false}
 use Rattle.algebra.specs.Words.{word}
 use Rattle.algebra.proofs.Symbols.{zero_symbol}
 use Rattle.generator.specs.Parts.{size, dimension, places_of}
 use Rattle.generator.proofs.Systematics.{inside}
-use Rattle.cosets.specs.States.{checks, cosets}
-use Rattle.cheapest.specs.Cheapest.{Cheapest, Sole}
+use Rattle.cosets.specs.States.{checks}
+use Rattle.cheapest.specs.Cheapest.{Sole}
 use Rattle.trellis.proofs.Powers.{power_positive}
 use Rattle.decoding.proofs.Messages.{counted, never_refused, cost_small, tied, decoded, not_tied}
 use Rattle.decoding.proofs.reading.decode.Goals as goal

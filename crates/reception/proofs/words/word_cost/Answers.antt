@@ -1,4 +1,4 @@
-use Rattle.std.proofs.Common.{◌≡◌, ℕ, ◌+◌, ◌≤◌, add-one, arith}
+use Rattle.std.proofs.Common.{◌≡◌, ℕ, ◌+◌, add-one, arith}
 use Rattle.reception.specs.Costs.{Costs, word_cost, symbol_at}
 use Rattle.reception.proofs.words.word_cost.Goals as goal
 

@@ -1,8 +1,6 @@
-use Rattle.std.proofs.Common.{◌≡◌, ℕ, suc, ◌+◌, ◌-◌, ◌*◌, ◌^◌, ◌<◌, ◌≤◌, [], length, take, set, sym, refl, ap, ◌∙◌, subst, arith, rules}
+use Rattle.std.proofs.Common.{◌≡◌, ◌-◌, ◌*◌, ◌<◌, ◌≤◌, [], length, take, sym, ◌∙◌, subst, arith, rules}
 use Rattle.std.proofs.lemmas.List.{take_more_set, take_all}
 use Rattle.generator.specs.Parts.{size}
-use Rattle.cosets.specs.States.{cosets}
-use Rattle.least.specs.Least.{best}
 use Rattle.least.proofs.Rows.{table_start}
 use Rattle.least.proofs.Tracing.{Traced, trace_none, trace_all}
 use Rattle.cheapest.specs.Trellises.{trellis_of}

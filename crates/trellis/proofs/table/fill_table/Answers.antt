@@ -1,4 +1,4 @@
-use Rattle.std.proofs.Common.{◌≡◌, ℕ, ◌+◌, ◌-◌, ◌*◌, ◌<◌, ◌≤◌, length, subst, arith}
+use Rattle.std.proofs.Common.{◌≡◌, ℕ, ◌+◌, ◌-◌, ◌<◌, subst, arith}
 use Rattle.cosets.specs.States.{cosets}
 use Rattle.generator.specs.Parts.{size}
 use Rattle.least.specs.Tables.{Table}

@@ -1,4 +1,4 @@
-use Rattle.std.proofs.Common.{◌≡◌, ℕ, ◌+◌, ◌<◌, ◌⊎◌, sym, ap, ◌∙◌, ap₂, inl, inr, ⊎_elim, arith}
+use Rattle.std.proofs.Common.{◌≡◌, ℕ, ◌+◌, sym, ap, ◌∙◌, ap₂, inl, inr, ⊎_elim, arith}
 use Rattle.least.specs.Least.{better}
 use Rattle.least.proofs.Choosing.{best_of_more, better_none, better_new, better_tied, better_old}
 use Rattle.trellis.specs.Reaching.{lead, on_cost, on_ways, least_on}

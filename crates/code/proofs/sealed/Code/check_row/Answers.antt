@@ -10,7 +10,6 @@ returns-in_default g c =
     record {
       told = inr ((λ n. n room), inl (omega arith, refl, ap₂ (λ a b. Some (a - b)) c.length-n.ensures c.dimension.ensures));
       kept = refl;
-      same = refl;
     }
 
 pub returns : goal.returns
@@ -29,5 +28,4 @@ returns g c =
         ),
       );
       kept = tt;
-      same = refl;
     }

@@ -1,4 +1,4 @@
-use Rattle.std.proofs.Common.{◌≡◌, ℕ, ◌<◌, length, get_or, refl, ◌∙◌, arith}
+use Rattle.std.proofs.Common.{◌≡◌, ℕ, ◌<◌, length, get_or, ◌∙◌, arith}
 use Rattle.generator.specs.Parts.{size, dimension}
 use Rattle.code.proofs.Encoding.{encoded}
 use Rattle.code.proofs.sealed.Code.encode.Goals as goal
@@ -23,5 +23,4 @@ returns g c =
         ),
       );
       kept = tt;
-      same = refl;
     }

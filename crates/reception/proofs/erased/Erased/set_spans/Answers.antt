@@ -1,4 +1,4 @@
-use Rattle.std.proofs.Common.{◌≡◌, ℕ, ◌<◌, List, length, sym, refl, ap, ◌∙◌, subst, ⊎_elim, arith, length-set}
+use Rattle.std.proofs.Common.{ℕ, List, sym, refl, ap, ◌∙◌, ⊎_elim, arith, length-set}
 use Rattle.reception.specs.declared.erased.Span.{Span}
 use Rattle.reception.specs.Spans.{span_end}
 use Rattle.reception.proofs.Listing.{end_ahead_more, keeps_more, written_more, written_all}
