@@ -3,7 +3,7 @@
 
 usage: python3 tools/respell.py     at the top of the repository
 
-It goes by whole names, from the list below, in .antt and .rt files (strings aside) and between the backticks of the pages.
+It goes by whole names, from the list below (`Goes_on` is what port.py left of a name), in .antt and .rt files (strings aside) and between the backticks of the pages.
 """
 
 import os
@@ -11,7 +11,7 @@ import re
 
 NAMES = """
 After-other All-silent Answered-counted At-code At-draft At-fresh At-stage Blank-from Cheapest-found Check-read Check-row Check-rows Distance-found
-Figure-told First-against First-from First-none First-place Leader-found Leads-other Length-set Lightest-found Message-decoded Message-encoded
+Figure-told First-against First-from First-none First-place Goes_on Leader-found Leads-other Length-set Lightest-found Message-decoded Message-encoded
 Noise-told Only-form Reduced-form Reduced-read Row-popped Row-pushed Same-span Says-dependent Shows-message Sole-leader Spans-set Symbol-rows
 Tells-dependence Tied-counted Too-dear Work-left Zero-exactly added-all added-costs after-answered after-length after-other after-pop after-row
 after-word agree-below agree-next all-passed all-symbols alpha-times apart-zero at-information at-pivot at-tells basis-of before-longer begun-tells
@@ -62,7 +62,7 @@ TICKED = re.compile(r"`[^`\n]*`")
 
 
 def respelled(name):
-    words = name.split("-")
+    words = re.split("[-_]", name)
     return "".join(w[:1].upper() + w[1:] for w in words) if name[0].isupper() else "_".join(words)
 
 

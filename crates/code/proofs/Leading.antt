@@ -7,7 +7,7 @@ use Rattle.algebra.specs.Words.{word, Dependent}
 use Rattle.basis.specs.declared.Basis.{Basis}
 use Rattle.refusal.specs.declared.Refusal.{Refusal}
 use Rattle.code.specs.Drafts.{State, Holds, FirstNone, LengthSet, RowPushed, RowPopped, after_length, after_push, after_pop, Turns}
-use Rattle.code.specs.Histories.{Call, set_length, push_row, pop_row, Fits, SaysDependent, Moves, Leads, Held, Follows, Goes_on, TellsDependence}
+use Rattle.code.specs.Histories.{Call, set_length, push_row, pop_row, Fits, SaysDependent, Moves, Leads, Held, Follows, GoesOn, TellsDependence}
 
 module _ (f : Ops) where
   one_more : {s m : State} {cs : List Call} (c : Call) (t : State) → Leads f s cs m → Moves f m c t → Leads f s (cs ++ c ∷ []) t
@@ -72,18 +72,18 @@ module _ (f : Ops) where
 
   -- a call whose answer tells how it moves the length and the rows
   goes_on : {A : Type 0} (call : Call) (told : State → Result A Refusal → Type 0) (after : State → Result A Refusal → State) (b c : Basis) (r : Result A Refusal)
-      → ((s : State) → told s r → Moves f s call (after s r)) → Turns f b told after r c → Goes_on f b call c
+      → ((s : State) → told s r → Moves f s call (after s r)) → Turns f b told after r c → GoesOn f b call c
   goes_on call told after b c r moves turns calls p =
       let a = turns p.0 p.2 in
       (after p.0 r, one_more call (after p.0 r) p.1 (moves p.0 a.0), a.1)
 
-  pub length_goes_on : (n : ℕ) (b c : Basis) (r : Result Unit Refusal) → Turns f b (λ s. LengthSet s n) (λ s. after_length s n) r c → Goes_on f b (set_length n) c
+  pub length_goes_on : (n : ℕ) (b c : Basis) (r : Result Unit Refusal) → Turns f b (λ s. LengthSet s n) (λ s. after_length s n) r c → GoesOn f b (set_length n) c
   length_goes_on n b c r turns = goes_on (set_length n) (λ s. LengthSet s n) (λ s. after_length s n) b c r (λ s. length_moves s n r) turns
 
-  pub push_goes_on : (w : List ℕ) (b c : Basis) (r : Result ℕ Refusal) → Turns f b (λ s. RowPushed f s w) (λ s. after_push s w) r c → Goes_on f b (push_row w) c
+  pub push_goes_on : (w : List ℕ) (b c : Basis) (r : Result ℕ Refusal) → Turns f b (λ s. RowPushed f s w) (λ s. after_push s w) r c → GoesOn f b (push_row w) c
   push_goes_on w b c r turns = goes_on (push_row w) (λ s. RowPushed f s w) (λ s. after_push s w) b c r (λ s. push_moves s w r) turns
 
-  pub pop_goes_on : (b c : Basis) (r : Result ℕ Refusal) → Turns f b RowPopped after_pop r c → Goes_on f b pop_row c
+  pub pop_goes_on : (b c : Basis) (r : Result ℕ Refusal) → Turns f b RowPopped after_pop r c → GoesOn f b pop_row c
   pop_goes_on b c r turns = goes_on pop_row RowPopped after_pop b c r (λ s. pop_moves s r) turns
 
   push_tells : (s : State) (w : List ℕ) (r : Result ℕ Refusal) → RowPushed f s w r → Fits f s w → (SaysDependent r → Dependent f s.rows w) × (Dependent f s.rows w → SaysDependent r)

@@ -47,8 +47,8 @@ abbrev pub Follows : Ops → List Call → Basis → Type 0
 Follows f calls b = (s : State) × Held f calls s × Holds f b s
 
 -- whatever calls b follows from, c follows from these and one more
-abbrev pub Goes_on : Ops → Basis → Call → Basis → Type 0
-Goes_on f b call c = (calls : List Call) → Follows f calls b → Follows f (calls ++ call ∷ []) c
+abbrev pub GoesOn : Ops → Basis → Call → Basis → Type 0
+GoesOn f b call c = (calls : List Call) → Follows f calls b → Follows f (calls ++ call ∷ []) c
 
 -- the answer is the refusal of a dependent row
 abbrev pub SaysDependent : Result ℕ Refusal → Type 0

@@ -2,7 +2,7 @@
 ghost use Rattle.std.specs.Prelude.{◌≡◌, ℕ, ◌<◌, [], length, MatchOption, OnErr, slice_index};
 ghost use Rattle.algebra.specs.Words.{cells, Independent};
 ghost use Rattle.code.specs.Drafts.{State, fresh, Holds, FirstNone, LengthSet, RowPushed, RowPopped, after_length, after_push, after_pop, Turns};
-ghost use Rattle.code.specs.Histories.{set_length, push_row, pop_row, Follows, Goes_on, TellsDependence};
+ghost use Rattle.code.specs.Histories.{set_length, push_row, pop_row, Follows, GoesOn, TellsDependence};
 
 use basis::Basis;
 use field::Field;
@@ -59,7 +59,7 @@ impl<F: Field> Draft<F> {
     // Sets the length, while no row is held.
     pub fn set_length(&mut self, n: usize) -> Result<(), Refusal>
         ensures told { Turns F.Field.ops self.old.basis (λ s. LengthSet s n) (λ s. after_length s n) result self.new.basis }
-        ensures follows { Goes_on F.Field.ops self.old.basis (set_length n) self.new.basis }
+        ensures follows { GoesOn F.Field.ops self.old.basis (set_length n) self.new.basis }
         ensures kept { OnErr result (self.new ≡ self.old) }
     {
         if n == 0 || n > 24 {
@@ -76,7 +76,7 @@ impl<F: Field> Draft<F> {
     // Loads a row after those held, and answers how many are held then.
     pub fn push_row(&mut self, row: &[u8]) -> Result<usize, Refusal>
         ensures told { Turns F.Field.ops self.old.basis (λ s. RowPushed F.Field.ops s row.now) (λ s. after_push s row.now) result self.new.basis }
-        ensures follows { Goes_on F.Field.ops self.old.basis (push_row row.now) self.new.basis }
+        ensures follows { GoesOn F.Field.ops self.old.basis (push_row row.now) self.new.basis }
         ensures dependent { TellsDependence F.Field.ops self.old.basis row.now result }
         ensures kept { OnErr result (self.new ≡ self.old) }
     {
@@ -96,7 +96,7 @@ impl<F: Field> Draft<F> {
     // Withdraws the row loaded last, and answers how many are held then.
     pub fn pop_row(&mut self) -> Result<usize, Refusal>
         ensures told { Turns F.Field.ops self.old.basis RowPopped after_pop result self.new.basis }
-        ensures follows { Goes_on F.Field.ops self.old.basis pop_row self.new.basis }
+        ensures follows { GoesOn F.Field.ops self.old.basis pop_row self.new.basis }
         ensures kept { OnErr result (self.new ≡ self.old) }
     {
         if self.basis.shorten() {
