@@ -2,6 +2,7 @@ pub mod Field
 pub mod Symbols
 pub mod Remainders
 pub mod Polynomials
+pub mod Tables
 pub mod Tests
 pub mod SymbolLaws
 pub mod RemainderLaws

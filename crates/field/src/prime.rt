@@ -1,103 +1,64 @@
 // The fields of a prime number of symbols, whose arithmetic is by remainder.
-ghost use Rattle.std.specs.Prelude.{◌≡◌, ◌<◌, ◌≤◌};
+ghost use Rattle.std.specs.Prelude.{◌≡◌, ◌==◌};
+ghost use Rattle.field.specs.Field.{Laws};
 ghost use Rattle.field.specs.Remainders.{remainders};
 ghost use Rattle.field.specs.RemainderLaws.{two_laws, three_laws};
 
 use crate::Field;
 
-// Each of these fields delegates to the functions over its order `p`. With at most 16 symbols, their sums and products fit a byte.
-fn remainder_sum(p: u8, a: u8, b: u8) -> u8
-    requires { (0 < p) × (p ≤ 16) }
-    ensures { result ≡ (remainders p).sum a b }
-{
-    if a < p && b < p { (a + b) % p } else { 0 }
-}
+// The numbers below P, with the remainder by P of each sum and product. They are a field where P is prime.
+#[derive(Clone, Copy)]
+pub struct Remainders<const P: u8>;
 
-fn remainder_negative(p: u8, a: u8) -> u8
-    requires { 0 < p }
-    ensures { result ≡ (remainders p).negative a }
-{
-    if a < p { (p - a) % p } else { 0 }
-}
-
-fn remainder_product(p: u8, a: u8, b: u8) -> u8
-    requires { (0 < p) × (p ≤ 16) }
-    ensures { result ≡ (remainders p).product a b }
-{
-    if a < p && b < p { (a * b) % p } else { 0 }
-}
-
-// Tries every symbol, from the greatest down, since there are few.
-fn remainder_inverse(p: u8, a: u8) -> u8
-    requires { (0 < p) × (p ≤ 16) }
-    ensures { result ≡ (remainders p).inverse a }
-{
-    if a < p {
-        for x in (0..p).rev() {
-            if (a * x) % p == 1 {
-                return x;
-            }
-        }
-    }
-    0
+// What a prime P brings: the numbers below it are a field.
+pub(crate) trait Prime<const P: u8> {
+    ghost laws: { Laws (remainders P) };
 }
 
 // The field of two symbols.
-#[derive(Clone, Copy)]
-pub struct Two;
+pub type Two = Remainders<2>;
 
-impl Field for Two {
-    ghost ops = { remainders 2 };
-
+impl Prime<2> for Two {
     ghost laws = { two_laws };
-
-    fn order() -> u8 {
-        2
-    }
-
-    fn sum(a: u8, b: u8) -> u8 {
-        remainder_sum(2, a, b)
-    }
-
-    fn negative(a: u8) -> u8 {
-        remainder_negative(2, a)
-    }
-
-    fn product(a: u8, b: u8) -> u8 {
-        remainder_product(2, a, b)
-    }
-
-    fn inverse(a: u8) -> u8 {
-        remainder_inverse(2, a)
-    }
 }
 
 // The field of three symbols.
-#[derive(Clone, Copy)]
-pub struct Three;
+pub type Three = Remainders<3>;
 
-impl Field for Three {
-    ghost ops = { remainders 3 };
-
+impl Prime<3> for Three {
     ghost laws = { three_laws };
+}
+
+// There are at most 16 symbols, so their sums and products fit a byte.
+impl<const P: u8> Field for Remainders<P>
+where
+    Self: Prime<P>,
+{
+    ghost ops = { remainders P };
+
+    ghost laws = { ⟦<Self as Prime<P>>⟧.laws };
 
     fn order() -> u8 {
-        3
+        P
     }
 
     fn sum(a: u8, b: u8) -> u8 {
-        remainder_sum(3, a, b)
+        if a < P && b < P { (a + b) % P } else { 0 }
     }
 
     fn negative(a: u8) -> u8 {
-        remainder_negative(3, a)
+        if a < P { (P - a) % P } else { 0 }
     }
 
     fn product(a: u8, b: u8) -> u8 {
-        remainder_product(3, a, b)
+        if a < P && b < P { (a * b) % P } else { 0 }
     }
 
+    // Tries every symbol, from the greatest down, since there are few.
     fn inverse(a: u8) -> u8 {
-        remainder_inverse(3, a)
+        let gives_one = |x: &u8| -> bool
+            ensures { result ≡ ((remainders P).product a x.entry.now == 1) }
+        { Self::product(a, *x) == 1 };
+        (0..P).rev().find(gives_one).unwrap_or(0)
     }
 }

@@ -10,8 +10,8 @@ mod tests {
     fn powers() -> [u8; 15] {
         let mut all = [0; 15];
         let mut power: u8 = 1;
-        for i in 0..15 {
-            all[i] = power;
+        for place in &mut all {
+            *place = power;
             power <<= 1;
             if power >= 16 {
                 power ^= 0b1_0011;
@@ -23,27 +23,22 @@ mod tests {
     #[test]
     fn sixteen_is_zero_and_the_powers(rt: HostRuntime) {
         let powers = powers();
-        let mut seen = [false; 16];
         for power in powers {
             assert!(rt; power < 16);
-            seen[power as usize] = true;
         }
-        for a in 1..16 {
-            assert!(rt; seen[a]);
+        for symbol in 1..16 {
+            assert!(rt; powers.contains(&symbol));
         }
-        assert!(rt; !seen[0]);
+        assert!(rt; !powers.contains(&0));
     }
 
     #[test]
     fn sixteen_by_powers(rt: HostRuntime) {
         let powers = powers();
-        for i in 0..15 {
-            for j in 0..15 {
-                assert_eq!(rt; Sixteen::sum(powers[i], powers[j]), powers[i] ^ powers[j]);
-                assert_eq!(rt;
-                    Sixteen::product(powers[i], powers[j]),
-                    powers[(i + j) % 15]
-                );
+        for (i, a) in powers.iter().enumerate() {
+            for (j, b) in powers.iter().enumerate() {
+                assert_eq!(rt; Sixteen::sum(*a, *b), *a ^ *b);
+                assert_eq!(rt; Sixteen::product(*a, *b), powers[(i + j) % 15]);
             }
         }
         for a in 0..16 {
@@ -59,10 +54,14 @@ mod tests {
     fn four_by_table(rt: HostRuntime) {
         let sums = [[0, 1, 2, 3], [1, 0, 3, 2], [2, 3, 0, 1], [3, 2, 1, 0]];
         let products = [[0, 0, 0, 0], [0, 1, 2, 3], [0, 2, 3, 1], [0, 3, 1, 2]];
-        for a in 0..4 {
-            for b in 0..4 {
-                assert_eq!(rt; Four::sum(a, b), sums[a as usize][b as usize]);
-                assert_eq!(rt; Four::product(a, b), products[a as usize][b as usize]);
+        for (a, row) in (0..4).zip(sums) {
+            for (b, sum) in (0..4).zip(row) {
+                assert_eq!(rt; Four::sum(a, b), sum);
+            }
+        }
+        for (a, row) in (0..4).zip(products) {
+            for (b, product) in (0..4).zip(row) {
+                assert_eq!(rt; Four::product(a, b), product);
             }
         }
     }

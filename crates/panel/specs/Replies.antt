@@ -13,10 +13,8 @@ use Rattle.code.specs.Codes.{Sealed}
 use Rattle.notation.specs.declared.command.Command.{Command}
 use Rattle.notation.specs.declared.command.Command.TheVariants.{Kind, Row, Back, Seal, Send, Hear, Distance, Noise, Unreadable}
 use Rattle.notation.specs.Views.{letters}
-use Rattle.field.specs.declared.prime.Two.{Two}
-use Rattle.field.specs.declared.prime.Three.{Three}
-use Rattle.field.specs.declared.binary.Four.{Four}
-use Rattle.field.specs.declared.binary.Sixteen.{Sixteen}
+use Rattle.field.specs.declared.prime.Remainders.{Remainders}
+use Rattle.field.specs.declared.binary.Polynomials.{Polynomials}
 use Rattle.field.specs.Remainders.{remainders}
 use Rattle.field.specs.Polynomials.{polynomials}
 use Rattle.panel.specs.declared.session.Panel.{Panel}
@@ -102,7 +100,7 @@ AtFresh Unreadable p r = Ignored p r
 -- A command at a panel, which then is p: it chooses a field first, and goes to the draft or the code of that field from then on. The work memory was `was`, and then is `is`.
 abbrev pub Answered : Panel → Command → List ℕ → Panel → Reply → List ℕ → Type 0
 Answered panel.Fresh command was p r is = AtFresh command p r × (is ≡ was)
-Answered (panel.Two s) command was p r is = (t : Stage Two) × (p ≡ panel.Two t) × AtStage (remainders 2) s command was t r is
-Answered (panel.Three s) command was p r is = (t : Stage Three) × (p ≡ panel.Three t) × AtStage (remainders 3) s command was t r is
-Answered (panel.Four s) command was p r is = (t : Stage Four) × (p ≡ panel.Four t) × AtStage (polynomials 2 3) s command was t r is
-Answered (panel.Sixteen s) command was p r is = (t : Stage Sixteen) × (p ≡ panel.Sixteen t) × AtStage (polynomials 4 3) s command was t r is
+Answered (panel.Two s) command was p r is = (t : Stage (Remainders 2)) × (p ≡ panel.Two t) × AtStage (remainders 2) s command was t r is
+Answered (panel.Three s) command was p r is = (t : Stage (Remainders 3)) × (p ≡ panel.Three t) × AtStage (remainders 3) s command was t r is
+Answered (panel.Four s) command was p r is = (t : Stage (Polynomials 4)) × (p ≡ panel.Four t) × AtStage (polynomials 2 3) s command was t r is
+Answered (panel.Sixteen s) command was p r is = (t : Stage (Polynomials 16)) × (p ≡ panel.Sixteen t) × AtStage (polynomials 4 3) s command was t r is
