@@ -40,7 +40,7 @@ pub enum Refusal {
 }
 
 impl Refusal {
-    // The number by which the refusal is told.
+    // The number by which the refusal is told. The panel and the table of refusals go by it.
     pub fn number(&self) -> u8
         ensures { result ≡ number self.now }
     {
@@ -68,21 +68,19 @@ impl Refusal {
         ensures { result ≡ value self.now }
     {
         match self {
-            Refusal::Length(n) => Some(*n),
-            Refusal::RowsHeld(k) => Some(*k),
-            Refusal::WrongLength(n) => Some(*n),
-            Refusal::NoSymbol(p) => Some(*p),
-            Refusal::Dependent(k) => Some(*k),
-            Refusal::NoRow => None,
-            Refusal::Cosets(n) => Some(*n),
-            Refusal::WorkMemory(words) => Some(*words),
-            Refusal::BufferLength(n) => Some(*n),
-            Refusal::Index(k) => Some(*k),
-            Refusal::TallyFull => None,
+            Refusal::Length(n)
+            | Refusal::RowsHeld(n)
+            | Refusal::WrongLength(n)
+            | Refusal::NoSymbol(n)
+            | Refusal::Dependent(n)
+            | Refusal::Cosets(n)
+            | Refusal::WorkMemory(n)
+            | Refusal::BufferLength(n)
+            | Refusal::Index(n)
+            | Refusal::SpanBytes(n)
+            | Refusal::SpanPair(n) => Some(*n),
             Refusal::Tied(cost) => Some(*cost as usize),
-            Refusal::SpanBytes(count) => Some(*count),
-            Refusal::SpanPair(k) => Some(*k),
-            Refusal::NoneAnswered => None,
+            Refusal::NoRow | Refusal::TallyFull | Refusal::NoneAnswered => None,
         }
     }
 }
