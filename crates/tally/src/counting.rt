@@ -11,7 +11,7 @@ const MOST_DECODINGS: u32 = 1_000_000_000;
 const MOST_COST: u32 = 24 * 65_535;
 
 impl Tally {
-    // Of no decodings.
+    // Of no decodings. A default is not derived for a type that keeps facts about its fields.
     pub fn new() -> Tally
         ensures { counts_of result ≡ none_yet }
     {
@@ -30,7 +30,8 @@ impl Tally {
     }
 
     // Counts a decoding that was answered at this cost, and tells whether it did: not at a full
-    // tally, nor at a cost that no decoding has.
+    // tally, nor at a cost that no decoding has. The answer is a `bool`, as where an item is put into
+    // a set: no value comes with it, and no cause that the caller could not test before.
     pub fn add_answered(&mut self, cost: u32) -> bool
         ensures { AnsweredCounted self.old cost result self.new }
     {
@@ -38,7 +39,7 @@ impl Tally {
             return false;
         }
         self.answered += 1;
-        self.cost += cost as u64;
+        self.cost += u64::from(cost);
         true
     }
 

@@ -8,7 +8,7 @@ pub mod telling;
 
 // No more than a thousand million decodings are counted, and none costs more than 24 places of
 // 65535 each, which is 1572840. So no sum leaves its type, nor does the noise figure's product.
-#[derive(Clone, Copy)]
+#[derive(Clone, Copy, Debug, PartialEq, Eq)]
 pub struct Tally {
     answered: u32,
     tied: u32,

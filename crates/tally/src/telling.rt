@@ -35,6 +35,6 @@ impl Tally {
         if self.answered == 0 {
             return Err(Refusal::NoneAnswered);
         }
-        Ok(1_000 * self.cost / self.answered as u64)
+        Ok(1_000 * self.cost / u64::from(self.answered))
     }
 }

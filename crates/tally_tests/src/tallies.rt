@@ -44,8 +44,10 @@ fn tied(rt: HostRuntime) {
 fn costs_that_no_decoding_has(rt: HostRuntime) {
     let mut tally = Tally::new();
     assert_eq!(rt; tally.add_answered(7), true);
+    let before = tally;
     assert_eq!(rt; tally.add_answered(1_572_841), false);
     assert_eq!(rt; tally.add_answered(u32::MAX), false);
+    assert_eq!(rt; tally, before);
     holds(&rt, &tally, 1, 0, 7);
 }
 
