@@ -1,16 +1,27 @@
 -- A loop over the pairs of a list of spans.
-use Rattle.std.proofs.Common.{◌≡◌, ℕ, ◌+◌, ◌*◌, ◌/◌, ◌%◌, ◌<◌, ◌≤◌, cond, ltb, List, length, get_or, set, sym, ap, ◌∙◌, inl, inr, ⊎_elim, add-one, arith, below_more}
+use Rattle.std.proofs.Common.{◌≡◌, ℕ, zero, suc, ◌+◌, ◌*◌, ◌/◌, ◌%◌, ◌<◌, ◌≤◌, cond, ltb, List, length, get_or, set, [], drop, sym, ap, ◌∙◌, inl, inr, ⊎_elim, arith, below_more}
 use Rattle.std.proofs.lemmas.List.FromFn.{fill_by_all}
-use Rattle.std.proofs.lemmas.List.{get_or-set_same, get_or-set_other}
+use Rattle.std.proofs.lemmas.List.{get_or-drop, get_or-take, get_or-set_same, get_or-set_other}
 use Rattle.std.proofs.lemmas.Bool.{cases_eq, cond_below}
 use Rattle.std.proofs.lemmas.Bool.Decides.{nat_tests}
+use Rattle.std.specs.Simd.{first_chunks}
 use Rattle.reception.specs.declared.erased.Span.{Span}
 use Rattle.reception.specs.Spans.{span_end}
 use Rattle.reception.specs.SpanLists.{empty, pair, end_ahead, Against, listed, spans_of}
 
--- where the pair ahead ends, one pair further
-pub end_ahead_more : (bytes : List ℕ) (k : ℕ) → end_ahead bytes (k + 1) ≡ span_end (pair bytes k)
-end_ahead_more bytes k = rw (add-one k)
+-- four bytes further on, the pairs are one ahead
+pair_on : (bytes : List ℕ) (k : ℕ) → pair (drop 4 bytes) k ≡ pair bytes (suc k)
+pair_on bytes k = grind (arith, get_or-drop)
+
+-- the chunk k of four bytes holds the pair k
+chunk : (count k : ℕ) (bytes : List ℕ) → k < count → pair (get_or (first_chunks 4 count bytes) k []) 0 ≡ pair bytes k
+chunk zero k bytes h = absurd (omega arith)
+chunk (suc count) zero bytes h = grind (arith, get_or-take)
+chunk (suc count) (suc k) bytes h = chunk count k (drop 4 bytes) (omega arith) ∙ pair_on bytes k
+
+-- what is read from the chunk k alone is the pair k of the list
+pub pair_alone : (bytes : List ℕ) (chunks : List (List ℕ)) (k : ℕ) (span : Span) → chunks ≡ first_chunks 4 (length bytes / 4) bytes → k < length bytes / 4 → span ≡ pair (get_or chunks k []) 0 → span ≡ pair bytes k
+pair_alone bytes chunks k span whole h e = e ∙ ap (λ x. pair (get_or x k []) 0) whole ∙ chunk _ k bytes h
 
 -- one pair more keeps its rule
 pub keeps_more : (size : ℕ) (bytes : List ℕ) (k : ℕ) (span : Span) → span ≡ pair bytes k → ((j : ℕ) → j < k → Against size bytes j → ⊥) → (span.count ≡ 0 → ⊥) → end_ahead bytes k ≤ span.offset → span_end span ≤ size → (j : ℕ) → j < k + 1 → Against size bytes j → ⊥

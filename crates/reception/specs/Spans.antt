@@ -1,5 +1,6 @@
 -- Spans of places.
-use Rattle.std.specs.Prelude.{ℕ, ◌+◌, Bool, false, ◌&&◌, ◌||◌, List, [], ◌∷◌, nat_le, nat_lt}
+use Rattle.std.specs.Prelude.{ℕ, ◌+◌, Bool, ◌&&◌, List, nat_le, nat_lt}
+use Rattle.std.specs.List.{list_any}
 use Rattle.reception.specs.declared.erased.Span.{Span}
 
 -- the place after the last of a span
@@ -12,5 +13,4 @@ within s i = nat_le s.offset i && nat_lt i (span_end s)
 
 -- whether the place i is in one of the spans
 abbrev pub covered : List Span → ℕ → Bool
-covered [] i = false
-covered (s ∷ ss) i = within s i || covered ss i
+covered spans i = list_any (λ s. within s i) spans

@@ -14,7 +14,8 @@ pub struct Combined<P, Q> {
 
 impl<P, Q> Combined<P, Q> {
     pub fn new(first: P, second: Q) -> Combined<P, Q>
-        ensures { (result.first ≡ first) × (result.second ≡ second) }
+        ensures first { result.first ≡ first }
+        ensures second { result.second ≡ second }
     {
         Combined { first, second }
     }
@@ -30,7 +31,7 @@ impl<P: Reception, Q: Reception> Reception for Combined<P, Q> {
     }
 
     fn cost(&self, place: usize, symbol: u8) -> u16 {
-        if place >= self.first.len() || place >= self.second.len() {
+        if place >= self.len() {
             return 0;
         }
         let first = self.first.cost(place, symbol);

@@ -5,7 +5,8 @@ ghost use Rattle.reception.specs.LayerLaws.{either_lawful};
 
 use crate::Reception;
 
-// Has the length and the costs of the reception that it holds.
+// Has the length and the costs of the reception that it holds. Neither kind stands for a failure or
+// for nothing received, so this is no `Result` and no `Option`.
 #[derive(Drop)]
 pub enum Either<P, Q> {
     First(P),

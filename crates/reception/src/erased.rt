@@ -1,37 +1,45 @@
 // Erasures: spans of places of which nothing is known.
-ghost use Rattle.std.specs.Prelude.{◌≡◌, ◌+◌, ◌*◌, ◌<◌, length, MatchResult};
+ghost use Rattle.std.specs.Prelude.{◌≡◌, MatchResult};
 ghost use Rattle.reception.specs.Layers as Layers;
 ghost use Rattle.reception.specs.LayerLaws.{erased_lawful};
 ghost use Rattle.reception.specs.Spans.{span_end, within, covered};
-ghost use Rattle.reception.specs.SpanLists.{no_spans, two_bytes, pair, SpansSet, spans_of};
+ghost use Rattle.reception.specs.SpanLists.{no_spans, pair, SpansSet, spans_of};
 
 use crate::Reception;
 use refusal::Refusal;
 
 // So many places in a row, from `offset` on.
-#[derive(Clone, Copy)]
+#[derive(Clone, Copy, Default)]
 pub(crate) struct Span {
     offset: u16,
     count: u16,
 }
 
-const EMPTY: Span = Span {
-    offset: 0,
-    count: 0,
-};
+// A pair of a list of spans: the offset and the count, each with its high byte first.
+impl From<[u8; 4]> for Span {
+    ghost from_gives = { λ bytes span. span ≡ pair bytes 0 };
+
+    fn from(bytes: [u8; 4]) -> Span {
+        let [offset_high, offset_low, count_high, count_low] = bytes;
+        Span {
+            offset: u16::from_be_bytes([offset_high, offset_low]),
+            count: u16::from_be_bytes([count_high, count_low]),
+        }
+    }
+}
 
 impl Span {
     // The place after the last.
     fn end(&self) -> usize
         ensures { result ≡ span_end self.now }
     {
-        self.offset as usize + self.count as usize
+        usize::from(self.offset) + usize::from(self.count)
     }
 
     fn has(&self, place: usize) -> bool
         ensures { result ≡ within self.now place }
     {
-        self.offset as usize <= place && place < self.end()
+        (usize::from(self.offset)..self.end()).contains(&place)
     }
 }
 
@@ -43,49 +51,21 @@ pub struct Erased<R> {
     spans: [Span; 8],
 }
 
-fn is_covered(spans: &[Span], place: usize) -> bool
-    ensures { result ≡ covered spans.now place }
-{
-    for span in spans {
-        if span.has(place) {
-            return true;
-        }
-    }
-    false
-}
-
-// The number that the two bytes at `i` write, the high byte first.
-fn two_bytes(bytes: &[u8], i: usize) -> u16
-    requires { i + 1 < length bytes.now }
-    ensures { result ≡ two_bytes bytes.now i }
-{
-    bytes[i] as u16 * 256 + bytes[i + 1] as u16
-}
-
-// The pair k of a list of spans.
-fn pair_at(bytes: &[u8], k: usize) -> Span
-    requires { 4 * k + 3 < length bytes.now }
-    ensures { result ≡ pair bytes.now k }
-{
-    Span {
-        offset: two_bytes(bytes, 4 * k),
-        count: two_bytes(bytes, 4 * k + 2),
-    }
-}
-
 impl<R: Reception> Erased<R> {
     // Without spans.
     pub fn new(under: R) -> Erased<R>
-        ensures { (result.under ≡ under) × (result.spans ≡ no_spans) }
+        ensures under { result.under ≡ under }
+        ensures spans { result.spans ≡ no_spans }
     {
         Erased {
             under,
-            spans: [EMPTY; 8],
+            spans: [Span::default(); 8],
         }
     }
 
     // Puts the spans that `bytes` lists in the place of the earlier ones: at most 8 pairs of offset
     // and count, two bytes each, the high byte first. A refusal leaves the spans as they were.
+    #[tactic(auto, using(crate::proofs::Listing::pair_alone))]
     pub fn set_spans(&mut self, bytes: &[u8]) -> Result<(), Refusal>
         ensures told { SpansSet (R.Reception.costs self.old.under).size bytes.now result }
         ensures spans { MatchResult result (λ _. self.new.spans ≡ spans_of bytes.now) (λ _. self.new ≡ self.old) }
@@ -94,13 +74,14 @@ impl<R: Reception> Erased<R> {
         if bytes.len() > 32 || bytes.len() % 4 != 0 {
             return Err(Refusal::SpanBytes(bytes.len()));
         }
+        let (pairs, _) = bytes.as_chunks::<4>();
         let size = self.under.len();
-        let mut spans = [EMPTY; 8];
+        let mut spans = [Span::default(); 8];
         let mut end_ahead = 0;
-        for k in 0..bytes.len() / 4 {
-            let span = pair_at(bytes, k);
+        for (k, pair) in pairs.iter().enumerate() {
+            let span = Span::from(*pair);
             let end = span.end();
-            if span.count == 0 || (span.offset as usize) < end_ahead || size < end {
+            if span.count == 0 || usize::from(span.offset) < end_ahead || size < end {
                 return Err(Refusal::SpanPair(k));
             }
             spans[k] = span;
@@ -108,6 +89,13 @@ impl<R: Reception> Erased<R> {
         }
         self.spans = spans;
         Ok(())
+    }
+
+    // Whether the place is in one of the spans.
+    fn is_covered(&self, place: usize) -> bool
+        ensures { result ≡ covered self.now.spans place }
+    {
+        self.spans.iter().any(|span| span.has(place))
     }
 }
 
@@ -121,7 +109,7 @@ impl<R: Reception> Reception for Erased<R> {
     }
 
     fn cost(&self, place: usize, symbol: u8) -> u16 {
-        if is_covered(&self.spans, place) {
+        if self.is_covered(place) {
             0
         } else {
             self.under.cost(place, symbol)

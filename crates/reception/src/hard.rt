@@ -30,10 +30,9 @@ impl Reception for HardWord<'_> {
     }
 
     fn cost(&self, place: usize, symbol: u8) -> u16 {
-        if place >= self.bytes.len() || self.bytes[place] == symbol {
-            0
-        } else {
-            1
+        match self.bytes.get(place) {
+            Some(byte) if *byte != symbol => 1,
+            _ => 0,
         }
     }
 }

@@ -6,7 +6,8 @@ ghost use Rattle.reception.specs.LayerLaws.{level_lawful};
 use crate::Reception;
 
 // The levels of a word, which are lent and not copied. Level v from 0 to 7 costs v for symbol 0, 7 - v
-// for symbol 1 and 7 for any other number. A byte above 7 is no level, and costs nothing.
+// for symbol 1 and 7 for any other number. A byte above 7 is no level, and costs nothing. Lent bytes
+// are all that it shares with a hard word: the rule of costs is another, so it is a type of its own.
 #[derive(Clone, Copy)]
 pub struct LevelWord<'a> {
     levels: &'a [u8],
@@ -30,13 +31,12 @@ impl Reception for LevelWord<'_> {
     }
 
     fn cost(&self, place: usize, symbol: u8) -> u16 {
-        if place >= self.levels.len() || self.levels[place] > 7 {
+        let Some(level @ 0..=7) = self.levels.get(place) else {
             return 0;
-        }
-        let level = self.levels[place];
+        };
         match symbol {
-            0 => u16::from(level),
-            1 => 7 - u16::from(level),
+            0 => u16::from(*level),
+            1 => 7 - u16::from(*level),
             _ => 7,
         }
     }

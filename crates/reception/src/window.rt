@@ -16,7 +16,9 @@ pub struct Window<R> {
 
 impl<R> Window<R> {
     pub fn new(under: R, start: usize, count: usize) -> Window<R>
-        ensures { (result.under ≡ under) × ((result.start ≡ start) × (result.count ≡ count)) }
+        ensures under { result.under ≡ under }
+        ensures start { result.start ≡ start }
+        ensures count { result.count ≡ count }
     {
         Window {
             under,

@@ -20,11 +20,11 @@ fn hard_words(rt: HostRuntime) {
 fn level_words(rt: HostRuntime) {
     let heard = LevelWord::new(&[0, 1, 2, 3, 4, 5, 6, 7, 8, 255]);
     assert_eq!(rt; heard.len(), 10);
-    for v in 0..8u16 {
-        assert_eq!(rt; heard.cost(v as usize, 0), v);
-        assert_eq!(rt; heard.cost(v as usize, 1), 7 - v);
-        assert_eq!(rt; heard.cost(v as usize, 2), 7);
-        assert_eq!(rt; heard.cost(v as usize, 255), 7);
+    for (place, level) in (0..8).enumerate() {
+        assert_eq!(rt; heard.cost(place, 0), level);
+        assert_eq!(rt; heard.cost(place, 1), 7 - level);
+        assert_eq!(rt; heard.cost(place, 2), 7);
+        assert_eq!(rt; heard.cost(place, 255), 7);
     }
     for symbol in 0..=255 {
         assert_eq!(rt; heard.cost(8, symbol), 0);

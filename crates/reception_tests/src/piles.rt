@@ -19,7 +19,7 @@ fn direct(place: usize, symbol: u8) -> u16 {
         return 0;
     }
     let below = 1 + place;
-    if below == 2 || below == 3 || below == 4 || below == 7 {
+    if matches!(below, 2 | 3 | 4 | 7) {
         return 0;
     }
     let wrong = if BYTES[below] == symbol { 0 } else { 1 };

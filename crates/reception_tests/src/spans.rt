@@ -17,11 +17,7 @@ fn ten() -> Result<Erased<Even>, Refusal> {
 
 // The first sixteen places: which of them cost nothing.
 fn silent(heard: &Erased<Even>) -> [u16; 16] {
-    let mut costs = [7; 16];
-    for place in 0..16 {
-        costs[place] = heard.cost(place, 0);
-    }
-    costs
+    std::array::from_fn(|place| heard.cost(place, 0))
 }
 
 const NONE: [u16; 16] = [1, 1, 1, 1, 1, 1, 1, 1, 1, 1, 0, 0, 0, 0, 0, 0];
