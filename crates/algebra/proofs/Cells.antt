@@ -1,8 +1,7 @@
 -- Lists of rows by their cells.
-use Rattle.std.proofs.Common.{◌≡◌, ℕ, zero, suc, ◌<◌, ◌≤◌, List, [], length, get_or, set, replicate, sym, refl, ap, ◌∙◌, inl, inr, not-suc-le-zero, arith}
-use lib.ListN.{length-replicate}
+use Rattle.std.proofs.Common.{◌≡◌, ℕ, zero, suc, ◌<◌, ◌≤◌, List, [], length, get_or, set, replicate, sym, refl, ap, ◌∙◌, inl, inr, arith}
 use Rattle.std.proofs.lemmas.List.{get_or-set_same, get_or-set_other, get_or_past}
-use Rattle.std.proofs.lemmas.Bool.{cases_eq, cases_lt}
+use Rattle.std.proofs.lemmas.Bool.{cases_lt}
 use Rattle.field.specs.Field.{Ops, Laws}
 use Rattle.algebra.specs.Words.{word, symbol, cells, symbol_cells, SymbolRows}
 use Rattle.algebra.proofs.Symbols.{symbol_below, symbol_is, symbol_none, zero_symbol}
@@ -24,18 +23,6 @@ pub blank_cells : (n m i k : ℕ) → cells (replicate n (replicate m 0)) i k �
 blank_cells zero m i k = refl
 blank_cells (suc n) m zero k = zeros_at m k
 blank_cells (suc n) m (suc i) k = blank_cells n m i k
-
-pub blank_width : (n m i : ℕ) → i < n → length {A = ℕ} (get_or (replicate n (replicate m 0)) i []) ≡ m
-blank_width zero m i h = absurd (not-suc-le-zero h)
-blank_width (suc n) m zero h = length-replicate {A = ℕ} m 0
-blank_width (suc n) m (suc i) h = blank_width n m i (omega arith)
-
--- each row of a table has its width still, once one is replaced
-pub width_set : (rows : List (List ℕ)) (n m i : ℕ) (r : List ℕ) → length rows ≡ n → length r ≡ m → ((j : ℕ) → j < n → length (get_or rows j []) ≡ m) → (j : ℕ) → j < n → length (get_or (set rows i r) j []) ≡ m
-width_set rows n m i r e w all j h = elim (cases_eq j i) [
-  | inl q ↦ ap (λ x. length (get_or (set rows i r) x [])) q ∙ ap length (get_or-set_same rows i r [] (omega arith)) ∙ w
-  | inr q ↦ ap length (get_or-set_other rows i j r [] q) ∙ all j h
-]
 
 -- past the places of every row there is 0
 pub cells_past : (rows : List (List ℕ)) (n : ℕ) → ((i : ℕ) → i < length rows → length (get_or rows i []) ≡ n) → (i k : ℕ) → n ≤ k → cells rows i k ≡ 0

@@ -5,11 +5,12 @@ use Rattle.algebra.specs.Words.{symbol, SymbolRows}
 use Rattle.algebra.proofs.Symbols.{symbol_zero, symbol_one}
 use Rattle.algebra.proofs.Cells.{symbol_rows}
 use Rattle.algebra.proofs.Triangular.{Triangular}
+use Rattle.linear.specs.Rows.{symbols}
 use Rattle.basis.specs.declared.Basis.{Basis}
 use Rattle.basis.specs.Parts.{size, count, rows_of, pivots_of}
 
 pub symbols_of : (f : Ops) → Laws f → (b : Basis) → SymbolRows f (rows_of f b)
-symbols_of f l b = symbol_rows f l b.rows
+symbols_of f l b = symbol_rows f l (symbols b.rows)
 
 pub triangular : (f : Ops) → Laws f → (b : Basis) → Triangular (count b) (rows_of f b) (pivots_of b)
 triangular f l b = record {

@@ -2,6 +2,7 @@
 use Rattle.std.specs.Prelude.{◌≡◌, ℕ, ◌+◌, ◌<◌, Bool, true, false}
 use Rattle.field.specs.Field.{Ops}
 use Rattle.algebra.specs.Words.{word, symbol_cells, with_row, Span, SameSpan}
+use Rattle.linear.specs.Rows.{symbols, places}
 use Rattle.basis.specs.declared.Basis.{Basis}
 
 -- its length
@@ -14,11 +15,11 @@ count b = b.k
 
 -- its rows in a field
 abbrev pub rows_of : Ops → Basis → ℕ → ℕ → ℕ
-rows_of f b = symbol_cells f b.rows
+rows_of f b = symbol_cells f (symbols b.rows)
 
 -- the pivot place of each row
 abbrev pub pivots_of : Basis → ℕ → ℕ
-pivots_of b = word b.pivots
+pivots_of b = word (places b.rows)
 
 -- A word w is offered to the basis b, which then is c. It is taken exactly if the rows do not span
 -- it: then there is one row more, the rows before it are as they were, and all span what the old
@@ -32,5 +33,5 @@ Offered f b w false c = Span f (count b) (rows_of f b) w × (c ≡ b)
 
 -- The last row has been taken off b, which then is c: there was one, and the others are as they were; or there was none.
 abbrev pub Shortened : Basis → Bool → Basis → Type 0
-Shortened b true c = (count b ≡ count c + 1) × (size c ≡ size b) × (c.rows ≡ b.rows)
+Shortened b true c = (count b ≡ count c + 1) × (size c ≡ size b) × (symbols c.rows ≡ symbols b.rows)
 Shortened b false c = (count b ≡ 0) × (c ≡ b)

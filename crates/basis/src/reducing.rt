@@ -19,6 +19,12 @@ impl Basis {
         ensures only { OnlyForm F.Field.ops (count self.now) (rows_of F.Field.ops self.now) (Generators.dimension result) (Generators.rows_of F.Field.ops result) (Generators.places_of result) }
         ensures first { 0 < Generators.dimension result → FirstPlace (count self.now) (rows_of F.Field.ops self.now) (Generators.places_of result 0) }
     {
-        Generator::of_rows::<F>(&self.rows, self.k, self.n)
+        let rows = self.rows;
+        let table = rows.map(
+            |row| -> [u8; 24]
+                ensures { result ≡ row.symbols }
+            { row.symbols },
+        );
+        Generator::of_rows::<F>(&table, self.k, self.n)
     }
 }

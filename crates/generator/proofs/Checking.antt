@@ -1,7 +1,12 @@
--- The walk to a check place, and the symbols of a check row.
-use Rattle.std.proofs.Common.{◌≡◌, ℕ, ◌+◌, ◌<◌, ◌≤◌, inl, inr, add-one, arith}
-use Rattle.std.proofs.lemmas.Bool.{cases_eq, cases_lt, cond-true, cond-false, eq-eqb, ne_eqb}
-use Rattle.algebra.specs.Checks.{at_information}
+-- The walk to a check place, and the row of an information place.
+use Rattle.std.proofs.Common.{◌≡◌, ◌≢◌, ℕ, ◌+◌, ◌<◌, ◌≤◌, List, length, take, Option, Some, None, MatchOption, sym, ◌∙◌, inl, inr, arith}
+use Rattle.std.specs.List.{AllWithin, HoldsAt}
+use Rattle.std.proofs.lemmas.List.{length-take}
+use Rattle.algebra.specs.Words.{word}
+use Rattle.linear.specs.declared.rows.Row.{Row}
+use Rattle.linear.specs.Rows.{places}
+use Rattle.linear.proofs.Taken.{blank, taken_place}
+use Rattle.std.proofs.lemmas.Bool.{cases_eq, cases_lt}
 
 -- the walk from i is at p, and has passed those of the first j information places that are before p
 pub record Walked (at : ℕ → ℕ) (i j p : ℕ) : Type 0 where
@@ -43,10 +48,11 @@ module _ (at : ℕ → ℕ) (m : ℕ) (up : (i j : ℕ) → i < j → j < m → 
     after = λ x y z. elim (cases_eq x j) [ inl e ↦ rw e b | inr n ↦ w.after x y (omega arith) ];
   }
 
--- one more row at whose information place a value may stand
-module _ (at v : ℕ → ℕ) (m k : ℕ) where
-  pub information_new : at m ≡ k → at_information at (m + 1) v k ≡ v m
-  information_new e = rw add-one (cond-true _ _ _ (eq-eqb (at m) k e))
-
-  pub information_old : (at m ≡ k → ⊥) → at_information at (m + 1) v k ≡ at_information at m v k
-  information_old n = rw add-one (cond-false _ _ _ (ne_eqb (at m) k n))
+-- the first row at whose place p stands, among the first k
+pub informing_row : (rows : List Row) (k p : ℕ) (r : Option ℕ) → k ≤ length rows
+    → MatchOption r (AllWithin (λ x. x.place ≢ p) (take k rows) 0 (length (take k rows))) (λ j. (j < length (take k rows)) × HoldsAt (λ x. x.place ≡ p) (take k rows) j × AllWithin (λ x. x.place ≢ p) (take k rows) 0 j)
+    → MatchOption r ((j : ℕ) → j < k → word (places rows) j ≢ p) (λ j. (j < k) × (word (places rows) j ≡ p))
+informing_row rows k p None h none = λ j b e.
+    let c : j < length (take k rows) = omega (arith, length-take k rows) in
+    none j blank (omega arith) c (taken_place rows k j blank c ∙ e)
+informing_row rows k p (Some j) h (b, own, _) = (omega (arith, length-take k rows), sym (taken_place rows k j blank b) ∙ own blank)

@@ -1,3 +1,4 @@
+pub mod Folding
 pub mod Framing
 pub mod Checking
 pub mod Systematics

@@ -7,11 +7,12 @@ use Rattle.algebra.specs.Checks.{index}
 use Rattle.algebra.proofs.Symbols.{zero_symbol, symbol_zero, symbol_one}
 use Rattle.algebra.proofs.Cells.{symbol_rows}
 use Rattle.algebra.proofs.Syndromes.{syndrome_symbol, index_fits, index_zero, zero_index, codeword_checks, checks_codeword}
+use Rattle.linear.specs.Rows.{symbols}
 use Rattle.generator.specs.declared.Generator.{Generator}
 use Rattle.generator.specs.Parts.{size, dimension, rows_of, places_of, syndrome_of, ZeroExactly}
 
 pub symbols_of : (f : Ops) → Laws f → (g : Generator) → SymbolRows f (rows_of f g)
-symbols_of f l g = symbol_rows f l g.rows
+symbols_of f l g = symbol_rows f l (symbols g.rows)
 
 pub systematic : (f : Ops) → Laws f → (g : Generator) → Systematic (dimension g) (rows_of f g) (places_of g)
 systematic f l g = record {

@@ -3,6 +3,7 @@ use Rattle.std.specs.Prelude.{◌≡◌, ℕ, ◌<◌, ◌≤◌, List, length}
 use Rattle.field.specs.Field.{Ops}
 use Rattle.algebra.specs.Words.{word, cells, cut, symbol_cells, combination, Symbols, Span}
 use Rattle.algebra.specs.Checks.{check_place, check_row, syndrome}
+use Rattle.linear.specs.Rows.{symbols, places}
 use Rattle.generator.specs.declared.Generator.{Generator}
 
 -- its length
@@ -15,11 +16,11 @@ dimension g = g.k
 
 -- its rows in a field
 abbrev pub rows_of : Ops → Generator → ℕ → ℕ → ℕ
-rows_of f g = symbol_cells f g.rows
+rows_of f g = symbol_cells f (symbols g.rows)
 
 -- the information place of each row
 abbrev pub places_of : Generator → ℕ → ℕ
-places_of g = word g.places
+places_of g = word (places g.rows)
 
 -- its check place i
 abbrev pub check_place_of : Generator → ℕ → ℕ

@@ -1,8 +1,8 @@
 // Check places, check rows and syndromes.
-ghost use Rattle.std.specs.Prelude.{◌≡◌, ℕ, ◌+◌, ◌-◌, ◌<◌, ◌≤◌, length, MatchOption, slice_index};
+ghost use Rattle.std.specs.Prelude.{◌≡◌, ℕ, ◌+◌, ◌-◌, ◌<◌, ◌≤◌, length, MatchOption, ◌≢◌, slice_index};
 ghost use Rattle.algebra.specs.Words.{total};
 ghost use Rattle.algebra.specs.Checks.{index};
-ghost use Rattle.generator.specs.Parts.{size, dimension, check_place_of, check_row_of, syndrome_of, ZeroExactly};
+ghost use Rattle.generator.specs.Parts.{size, dimension, places_of, check_place_of, check_row_of, syndrome_of, ZeroExactly};
 
 use crate::Generator;
 use field::Field;
@@ -18,33 +18,40 @@ impl Generator {
         }
         // Each information place at or before it moves the place on by one.
         let mut p = i;
-        for j in 0..self.k {
-            if self.places[j] <= p {
+        for row in self.rows[..self.k].iter() {
+            if row.place <= p {
                 p += 1;
             }
         }
         Some(p)
     }
 
+    // The row whose information place is p, if there is one.
+    fn informing_row(&self, p: usize) -> Option<usize>
+        ensures { MatchOption result ((j : ℕ) → j < dimension self.now → places_of self.now j ≢ p) (λ j. (j < dimension self.now) × (places_of self.now j ≡ p)) }
+    {
+        self.rows[..self.k].iter().position(|row| row.place == p)
+    }
+
     // The symbol at p of the check row of the check place `place`.
     fn check_symbol<F: Field>(&self, place: usize, p: usize) -> u8
         ensures { result ≡ check_row_of F.Field.ops self.now place p }
     {
-        let mut symbol = 0;
-        for j in 0..self.k {
-            if self.places[j] == p {
-                symbol = F::negative(self.symbol::<F>(j, place));
-            }
+        if p == place {
+            return 1;
         }
-        if p == place { 1 } else { symbol }
+        match self.informing_row(p) {
+            Some(j) => F::negative(self.symbol::<F>(j, place)),
+            None => 0,
+        }
     }
 
     // Writes the check row of the check place `place`, as far as `out` goes.
     pub fn check_row<F: Field>(&self, place: usize, out: &mut [u8])
         ensures { (p : ℕ) → p < length out.old → slice_index out.new p ≡ check_row_of F.Field.ops self.now place p }
     {
-        for p in 0..out.len() {
-            out[p] = self.check_symbol::<F>(place, p);
+        for (p, symbol) in out.iter_mut().enumerate() {
+            *symbol = self.check_symbol::<F>(place, p);
         }
     }
 
@@ -52,14 +59,12 @@ impl Generator {
     fn syndrome_symbol<F: Field>(&self, word: &[u8], place: usize) -> u8
         ensures { result ≡ total F.Field.ops (λ p. F.Field.ops.product (slice_index word.now p) (check_row_of F.Field.ops self.now place p)) (size self.now) }
     {
-        let mut sum = 0;
-        for p in 0..self.n {
-            sum = F::sum(
+        (0..self.n).fold(0, |sum, p| {
+            F::sum(
                 sum,
                 F::product(at(word, p), self.check_symbol::<F>(place, p)),
-            );
-        }
-        sum
+            )
+        })
     }
 
     // The index of a word's syndrome: its symbols as one number in base q, the first most

@@ -25,17 +25,16 @@ impl Generator {
     pub fn place(&self, j: usize) -> usize
         ensures { (j < dimension self.now → result ≡ places_of self.now j) × (dimension self.now ≤ j → result ≡ 0) }
     {
-        if j < self.k { self.places[j] } else { 0 }
+        self.rows[..self.k].get(j).map_or(0, |row| row.place)
     }
 
     // The symbol of the row j at the place p, or 0 where there is no such row or place.
     pub fn symbol<F: Field>(&self, j: usize, p: usize) -> u8
         ensures { (j < dimension self.now → result ≡ rows_of F.Field.ops self.now j p) × (dimension self.now ≤ j → result ≡ 0) }
     {
-        if j < self.k {
-            F::product(1, at(&self.rows[j], p))
-        } else {
-            0
+        match self.rows[..self.k].get(j) {
+            Some(row) => F::product(1, at(&row.symbols, p)),
+            None => 0,
         }
     }
 
@@ -44,8 +43,8 @@ impl Generator {
         ensures { result ≡ combination F.Field.ops (word message.now) (rows_of F.Field.ops self.now) (dimension self.now) p }
     {
         let mut sum = 0;
-        for j in 0..self.k {
-            sum = F::sum(sum, F::product(at(message, j), self.symbol::<F>(j, p)));
+        for (j, row) in self.rows[..self.k].iter().enumerate() {
+            sum = F::sum(sum, F::product(at(message, j), at(&row.symbols, p)));
         }
         sum
     }
@@ -55,8 +54,8 @@ impl Generator {
     pub fn encode<F: Field>(&self, message: &[u8], out: &mut [u8])
         ensures { (p : ℕ) → p < length out.old → slice_index out.new p ≡ combination F.Field.ops (word message.now) (rows_of F.Field.ops self.now) (dimension self.now) p }
     {
-        for p in 0..out.len() {
-            out[p] = self.codeword_at::<F>(message, p);
+        for (p, symbol) in out.iter_mut().enumerate() {
+            *symbol = self.codeword_at::<F>(message, p);
         }
     }
 }

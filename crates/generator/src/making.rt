@@ -1,28 +1,41 @@
 // The generator that rows have in their reduced row echelon form, and what it is made of.
-ghost use Rattle.std.specs.Prelude.{◌≡◌, ℕ, ◌<◌, ◌≤◌, min, [], length, slice_index_or};
+ghost use Rattle.std.specs.Prelude.{◌≡◌, ℕ, ◌<◌, ◌≤◌, min, slice_index};
 ghost use Rattle.algebra.specs.Words as Words;
 ghost use Rattle.algebra.specs.Words.{cells};
 ghost use Rattle.algebra.specs.Reduced.{ReducedForm, OnlyForm, FirstPlace};
+ghost use Rattle.linear.specs.Rows as Rows;
+ghost use Rattle.linear.specs.Rows.{symbols};
 ghost use Rattle.generator.specs.Parts.{size, dimension, rows_of, places_of, first_rows};
 
 use crate::Generator;
 use field::Field;
-use linear::elimination::reduce;
-use linear::rows::cut;
+use linear::elimination::{Echelon, reduce};
+use linear::rows::{Row, cut};
+use std::array;
 
 // The first n places of the first `count` rows, as symbols, and 0s around them.
 fn framed<F: Field>(rows: &[[u8; 24]; 24], count: usize, n: usize) -> [[u8; 24]; 24]
-    requires { (count ≤ 24) × (n ≤ 24) }
-    ensures lines { length result ≡ 24 }
-    ensures wide { (i : ℕ) → i < 24 → length (slice_index_or result i []) ≡ 24 }
+    requires few { count ≤ 24 }
+    requires short { n ≤ 24 }
     ensures inner { (i p : ℕ) → i < count → cells result i p ≡ Words.cut F.Field.ops n (cells rows.now i) p }
     ensures below { (i p : ℕ) → count ≤ i → cells result i p ≡ 0 }
 {
     let mut table = [[0; 24]; 24];
-    for i in 0..count {
-        table[i] = cut::<F>(&rows[i], n);
+    for (i, row) in rows[..count].iter().enumerate() {
+        table[i] = cut::<F>(row, n);
     }
     table
+}
+
+// The rows of a table, each with its place.
+fn placed(table: &[[u8; 24]; 24], places: &[usize; 24]) -> [Row; 24]
+    ensures same { (i p : ℕ) → cells (symbols result) i p ≡ cells table.now i p }
+    ensures at { (i : ℕ) → slice_index (Rows.places result) i ≡ slice_index places.now i }
+{
+    array::from_fn(|i| Row {
+        place: places[i],
+        symbols: table[i],
+    })
 }
 
 impl Generator {
@@ -38,14 +51,8 @@ impl Generator {
     {
         let n = n.min(24);
         let mut table = framed::<F>(rows, count.min(24), n);
-        let echelon = reduce::<F>(&mut table);
-        let rows = framed::<F>(&table, 24, n);
-        let places = echelon.places;
-        Generator {
-            n,
-            k: echelon.rank,
-            rows,
-            places,
-        }
+        let Echelon { rank, places } = reduce::<F>(&mut table);
+        let rows = placed(&table, &places);
+        Generator { n, k: rank, rows }
     }
 }

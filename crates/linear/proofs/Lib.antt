@@ -1,1 +1,4 @@
 pub mod Clearing
+pub mod Closed
+pub mod Made
+pub mod Taken

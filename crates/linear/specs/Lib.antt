@@ -1,1 +1,2 @@
 pub mod Pivot
+pub mod Rows

@@ -17,14 +17,19 @@ struct Found {
 
 // The first place from `place` on at which one of the rows from `row` on is not 0, and the first such row.
 fn find_pivot(rows: &[[u8; 24]], row: usize, place: usize) -> Option<Found>
-    requires { (row ≤ length rows.now) × (place ≤ 24) }
+    requires rows_left { row ≤ length rows.now }
+    requires places_left { place ≤ 24 }
     ensures { FirstFrom (cells rows.now) (length rows.now) row place result }
 {
+    let rest = &rows[row..];
     'places: {
         for p in place..24 {
-            for i in row..rows.len() {
-                if rows[i][p] != 0 {
-                    break 'places Some(Found { row: i, place: p });
+            for (i, symbols) in rest.iter().enumerate() {
+                if symbols[p] != 0 {
+                    break 'places Some(Found {
+                        row: row + i,
+                        place: p,
+                    });
                 }
             }
         }
@@ -32,49 +37,37 @@ fn find_pivot(rows: &[[u8; 24]], row: usize, place: usize) -> Option<Found>
     }
 }
 
-fn swap_rows(rows: &mut [[u8; 24]], i: usize, j: usize)
-    requires { (i < length rows.old) × (j < length rows.old) }
-    ensures { Swapped (cells rows.old) (cells rows.new) i j }
-{
-    let a = rows[i];
-    let b = rows[j];
-    rows[i] = b;
-    rows[j] = a;
-}
-
-fn scale_row<F: Field>(rows: &mut [[u8; 24]], i: usize, c: u8)
-    requires { (i < length rows.old) × (c < F.Field.ops.order) }
-    ensures { Scaled F.Field.ops (cells rows.old) (cells rows.new) i c }
-{
-    scale::<F>(&mut rows[i], c);
-}
-
 // Takes from each row but the row i the multiple of the row i that makes it 0 at the place p.
 fn clear_column<F: Field>(rows: &mut [[u8; 24]], i: usize, p: usize)
-    requires { (i < length rows.old) × ((p < 24) × (SymbolRows F.Field.ops (cells rows.old))) }
+    requires row_held { i < length rows.old }
+    requires place_held { p < 24 }
     ensures { Cleared F.Field.ops (length rows.old) (cells rows.old) (cells rows.new) i p }
 {
     let by = rows[i];
-    for h in 0..rows.len() {
+    for (h, row) in rows.iter_mut().enumerate() {
         if h != i {
-            let factor = F::negative(rows[h][p]);
-            add_multiple::<F>(&mut rows[h], &by, factor);
+            let factor = F::negative(row[p]);
+            add_multiple::<F>(row, &by, factor);
         }
     }
 }
 
 // Brings the row j up to be the row `rank`, with 1 at the place p, and makes the others 0 there.
 fn make_pivot<F: Field>(rows: &mut [[u8; 24]], rank: usize, j: usize, p: usize)
-    requires { (rank ≤ j) × ((j < length rows.old) × ((p < 24) × ((SymbolRows F.Field.ops (cells rows.old)) × ((cells rows.old j p ≢ 0))))) }
+    requires below { rank ≤ j }
+    requires row_held { j < length rows.old }
+    requires place_held { p < 24 }
+    requires pivot { cells rows.old j p ≢ 0 }
     ensures { Pivots F.Field.ops (length rows.old) (cells rows.old) (cells rows.new) rank p }
 {
-    swap_rows(rows, rank, j);
+    rows.swap(rank, j);
     let factor = F::inverse(rows[rank][p]);
-    scale_row::<F>(rows, rank, factor);
+    scale::<F>(&mut rows[rank], factor);
     clear_column::<F>(rows, rank, p);
 }
 
-// How many rows a reduced form has, and their information places.
+// How many rows a reduced form has, and their information places. The rows themselves stand in the
+// slice that was reduced, so the places are told beside them.
 #[derive(Clone, Copy)]
 pub struct Echelon {
     pub rank: usize,

@@ -3,24 +3,27 @@ ghost use Rattle.std.specs.Prelude.{◌≡◌, ℕ, ◌<◌, length, slice_index
 ghost use Rattle.algebra.specs.Words as Words;
 
 use field::Field;
+use std::array;
+
+// A row of symbols, and the place at which it has its 1.
+#[derive(Clone, Copy)]
+pub struct Row {
+    pub place: usize,
+    pub symbols: [u8; 24],
+}
 
 // What stands at the place `k` of a word: past its end there are 0s.
 pub fn at(word: &[u8], k: usize) -> u8
     ensures { result ≡ slice_index word.now k }
 {
-    if k < word.len() { word[k] } else { 0 }
+    word.get(k).copied().unwrap_or(0)
 }
 
 // The first n places of a word, as symbols: a number that is none counts as 0. All else is 0.
 pub fn cut<F: Field>(word: &[u8], n: usize) -> [u8; 24]
-    ensures wide { length result ≡ 24 }
-    ensures places { (k : ℕ) → k < 24 → slice_index result k ≡ Words.cut F.Field.ops n (Words.word word.now) k }
+    ensures { (k : ℕ) → k < 24 → slice_index result k ≡ Words.cut F.Field.ops n (Words.word word.now) k }
 {
-    let mut out = [0; 24];
-    for k in 0..n.min(24) {
-        out[k] = F::product(1, at(word, k));
-    }
-    out
+    array::from_fn(|k| { if k < n { F::product(1, at(word, k)) } else { 0 } })
 }
 
 // Multiplies each place of `row` by `factor`.

@@ -1,25 +1,29 @@
-use Rattle.std.proofs.Common.{ℕ, ◌+◌, ◌<◌, sym, subst, arith}
+use Rattle.std.proofs.Common.{ℕ, take, length, ◌+◌, ◌<◌, sym, subst, arith}
+use Rattle.std.proofs.lemmas.List.{length-take}
 use Rattle.algebra.proofs.Checks.{check_place_is}
+use Rattle.linear.proofs.Taken.{taken_place}
 use Rattle.generator.specs.Parts.{places_of}
 use Rattle.generator.proofs.Checking.{Walked, walked_on, walked_by}
 use Rattle.generator.proofs.Generator.check_place.Goals as goal
-use Rattle.generator.proofs.Generator.check_place.Goals.{then-self-j, else-self-j}
+use Rattle.generator.proofs.Generator.check_place.Goals.{then-row-p, else-row-p}
 
-pub loop-j-init : goal.loop-j-init
-loop-j-init c = record { passed = 0; some = omega arith; is = omega arith; before = λ h b. absurd (omega arith); after = λ h b x. absurd (omega arith) }
+pub loop-row-init : goal.loop-row-init
+loop-row-init c = record { passed = 0; some = omega arith; is = omega arith; before = λ h b. absurd (omega arith); after = λ h b x. absurd (omega arith) }
 
 pub overflow_add-p : goal.overflow_add-p
-overflow_add-p c = let w = c.loop-j.invariant.some in let e = c.loop-j.invariant.is in omega arith
+overflow_add-p c = let w = c.loop-row.invariant.some in let e = c.loop-row.invariant.is in omega arith
 
-pub loop-j-preserved : goal.loop-j-preserved
-loop-j-preserved c =
+pub loop-row-preserved : goal.loop-row-preserved
+loop-row-preserved c =
     let s = c.args.self.now in
     let at = places_of s in
     let up : (i j : ℕ) → i < j → j < s.k → at i < at j = λ i j a b. s.ascends i j (a, b) in
-    let P : ℕ → Type 0 = λ p. Walked at c.args.i (c.loop-j.j + 1) p in
-    elim c.if-self-j.branch [
-      | then-self-j w ↦ subst P (sym w.p-is) (walked_on at s.k up c.args.i c.loop-j.j c.loop-j.p c.loop-j-test.true c.loop-j.invariant w.if-self-j.true)
-      | else-self-j w ↦ subst P (sym w.p-is) (walked_by at s.k up c.args.i c.loop-j.j c.loop-j.p c.loop-j-test.true c.loop-j.invariant w.if-self-j.false)
+    let held : c.loop-row.row-index < length (take s.k s.rows) = c.loop-row-test.true in
+    let on : c.loop-row.row-index < s.k = omega (arith, length-take s.k s.rows) in
+    let P : ℕ → Type 0 = λ p. Walked at c.args.i (c.loop-row.row-index + 1) p in
+    elim c.if-row-p.branch [
+      | then-row-p w ↦ subst P (sym w.p-is) (walked_on at s.k up c.args.i c.loop-row.row-index c.loop-row.p on c.loop-row.invariant (rw (taken_place s.rows s.k c.loop-row.row-index) at w.if-row-p.true))
+      | else-row-p w ↦ subst P (sym w.p-is) (walked_by at s.k up c.args.i c.loop-row.row-index c.loop-row.p on c.loop-row.invariant (rw (taken_place s.rows s.k c.loop-row.row-index) at w.if-row-p.false))
     ]
 
 pub returns : goal.returns
@@ -27,8 +31,8 @@ returns c =
     let s = c.args.self.now in
     let at = places_of s in
     let i = c.args.i in
-    let p = c.loop-j.p in
-    let w = c.loop-j.invariant in
+    let p = c.loop-row.p in
+    let w = c.loop-row.invariant in
     let some = w.some in
     let is = w.is in
     let few = s.few in

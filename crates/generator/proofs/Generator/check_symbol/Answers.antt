@@ -1,30 +1,26 @@
-use Rattle.std.proofs.Common.{◌≡◌, ℕ, sym, ap, ◌∙◌, arith}
-use Rattle.std.proofs.lemmas.Bool.{cond-true, cond-false, eq-eqb, ne_eqb}
+use Rattle.std.proofs.Common.{◌≡◌, ℕ, sym, ap, ◌∙◌}
+use Rattle.std.proofs.lemmas.Bool.{cond-false, ne_eqb}
 use Rattle.algebra.specs.Checks.{at_information}
-use Rattle.generator.specs.Parts.{rows_of, places_of}
-use Rattle.generator.proofs.Checking.{information_new, information_old}
+use Rattle.algebra.proofs.Checks.{information_own, information_other, informs_none}
+use Rattle.generator.specs.Parts.{dimension, rows_of, places_of}
 use Rattle.generator.proofs.Generator.check_symbol.Goals as goal
-use Rattle.generator.proofs.Generator.check_symbol.Goals.{then-self-j, else-self-j}
 
-pub loop-j-preserved : goal.loop-j-preserved
-loop-j-preserved g c =
+pub returns-in-Some : goal.returns-in-Some
+returns-in-Some g c =
     let f = g.F.Field.ops in
     let s = c.args.self.now in
     let at = places_of s in
-    let j = c.loop-j.j in
     let v : ℕ → ℕ = λ i. f.negative (rows_of f s i c.args.place) in
-    elim c.if-self-j.branch [
-      | then-self-j w ↦ w.symbol-is ∙ w.negative-symbol.ensures ∙ ap f.negative (w.symbol.ensures.0 c.loop-j-test.true) ∙ sym (information_new at v j c.args.p w.if-self-j.true)
-      | else-self-j w ↦ w.symbol-is ∙ c.loop-j.invariant ∙ sym (information_old at v j c.args.p w.if-self-j.false)
-    ]
+    let j = c.in-Some.j in
+    let is = c.in-Some.ensures in
+    let own : at_information at (dimension s) v (at j) ≡ v j = information_own at v (dimension s) (λ x y a b. s.ascends x y (a, b)) j is.0 in
+    let here : at_information at (dimension s) v c.args.p ≡ v j = rw is.1 at own in
+    c.negative.ensures ∙ ap f.negative (c.symbol.ensures.0 is.0) ∙ sym here ∙ sym (cond-false _ _ _ (ne_eqb _ _ c.if-p-place.false))
 
-pub returns-then-p-place : goal.returns-then-p-place
-returns-then-p-place g c = sym (cond-true _ _ _ (eq-eqb _ _ c.if-p-place.true))
-
-pub returns-else-p-place : goal.returns-else-p-place
-returns-else-p-place g c =
+pub returns-in-None : goal.returns-in-None
+returns-in-None g c =
     let f = g.F.Field.ops in
     let s = c.args.self.now in
+    let at = places_of s in
     let v : ℕ → ℕ = λ i. f.negative (rows_of f s i c.args.place) in
-    let e : c.loop-j.j ≡ s.k = omega arith in
-    c.loop-j.invariant ∙ ap (λ m. at_information (places_of s) m v c.args.p) e ∙ sym (cond-false _ _ _ (ne_eqb _ _ c.if-p-place.false))
+    sym (information_other at v (dimension s) c.args.p (informs_none at (dimension s) c.args.p c.in-None.ensures)) ∙ sym (cond-false _ _ _ (ne_eqb _ _ c.if-p-place.false))

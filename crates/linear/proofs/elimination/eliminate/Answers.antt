@@ -18,12 +18,12 @@ loop-found-preserved g c =
     let p = c.in-Some.found.place in
     let at = c.in-Some.ensures in
     let here : Progress f m (cells old) (cells rows) rank p (word places) =
-    progress_on f l m (cells old) (cells rows) (cells rows) rank c.loop-found.place (word places) c.loop-found.invariant.2 p at.0 (λ i k h b x y. at.5 k x y i b (omega arith)) in
+    progress_on f l m (cells old) (cells rows) (cells rows) rank c.loop-found.place (word places) c.loop-found.invariant.2 p at.onward (λ i k h b x y. at.blank k x y i b (omega arith)) in
     let N : ℕ → Type 0 = λ n. Pivots f n (cells rows) (cells c.make_pivot.new.rows) rank p in
     let step : Pivots f m (cells rows) (cells c.make_pivot.new.rows) rank p = subst N c.loop-found.auto.rows c.make_pivot.ensures in
-    let room : rank < length places = let n = here.counted in let b = at.1 in omega arith in (
+    let room : rank < length places = let n = here.counted in let b = at.inside in omega arith in (
       length-set places rank p ∙ c.loop-found.invariant.0,
-      (let b = at.1 in omega arith),
+      (let b = at.inside in omega arith),
       step (cells old) (word places) (word (set places rank p)) (get_or-set_same places rank p 0 room) (λ i h. get_or-set_other places rank i p 0 (omega arith)) here,
     )
 
