@@ -20,6 +20,10 @@ pub record Sealed (f : Ops) (s : State) (g : Generator) : Type 0 where
   pub first : 0 < dimension g → FirstPlace (length s.rows) (cells s.rows) (places_of g 0)
   pub independent : Independent f (length s.rows) (cells s.rows)
 
+-- a buffer of so many places is as long as the code; else it is turned away
+abbrev pub BufferChecked : Generator → ℕ → Result Unit Refusal → Type 0
+BufferChecked g room = refused_if (room ≢ size g) 10 (Some (size g)) (accepted (λ _. room ≡ size g))
+
 -- `out` is the codeword of the message m: in the span of the rows, with the message at the
 -- information places in order; no other message has this codeword.
 pub record Encoded (f : Ops) (g : Generator) (m out : List ℕ) : Type 0 where

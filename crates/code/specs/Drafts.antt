@@ -20,6 +20,13 @@ fresh = record { size = 1; rows = [] }
 abbrev pub FirstNone : Ops → List ℕ → ℕ → Type 0
 FirstNone f w p = (p < length w) × (f.order ≤ word w p) × ((k : ℕ) → k < p → word w k < f.order)
 
+-- w is a word of n symbols: it is turned away for its length, or else for the first number that is no symbol
+abbrev pub WordChecked : Ops → ℕ → List ℕ → Result Unit Refusal → Type 0
+WordChecked f n w =
+    refused_if (length w ≢ n) 4 (Some n)
+    (refused_at (FirstNone f w) 5
+    (accepted (λ _. (length w ≡ n) × ((k : ℕ) → k < length w → word w k < f.order))))
+
 -- A basis stands for a draft of some length and rows: these have that length and only symbols, and
 -- the first i of them span what the first i rows of the basis do, for every i.
 pub record Holds (f : Ops) (b : Basis) (s : State) : Type 0 where

@@ -1,7 +1,7 @@
 // A draft of a generator: a length, and rows that are loaded and withdrawn at their end.
 ghost use Rattle.std.specs.Prelude.{◌≡◌, ℕ, ◌<◌, [], length, MatchOption, OnErr, slice_index};
 ghost use Rattle.algebra.specs.Words.{cells, Independent};
-ghost use Rattle.code.specs.Drafts.{State, fresh, Holds, FirstNone, LengthSet, RowPushed, RowPopped, after_length, after_push, after_pop, Turns};
+ghost use Rattle.code.specs.Drafts.{State, fresh, Holds, FirstNone, WordChecked, LengthSet, RowPushed, RowPopped, after_length, after_push, after_pop, Turns};
 ghost use Rattle.code.specs.Histories.{set_length, push_row, pop_row, Follows, GoesOn, TellsDependence};
 
 use basis::Basis;
@@ -20,12 +20,22 @@ pub struct Draft<F> {
 pub(crate) fn first_no_symbol<F: Field>(word: &[u8]) -> Option<usize>
     ensures { MatchOption result ((p : ℕ) → p < length word.now → slice_index word.now p < F.Field.ops.order) (FirstNone F.Field.ops word.now) }
 {
-    for (p, symbol) in word.iter().enumerate() {
-        if *symbol >= F::order() {
-            return Some(p);
-        }
+    let order = F::order();
+    word.iter().position(|symbol| *symbol >= order)
+}
+
+// Turns away what is not a word of n symbols: first for its length, then for the first number in it
+// that is no symbol.
+pub(crate) fn check_word<F: Field>(word: &[u8], n: usize) -> Result<(), Refusal>
+    ensures { WordChecked F.Field.ops n word.now result }
+{
+    if word.len() != n {
+        return Err(Refusal::WrongLength(n));
     }
-    None
+    match first_no_symbol::<F>(word) {
+        Some(place) => Err(Refusal::NoSymbol(place)),
+        None => Ok(()),
+    }
 }
 
 impl<F: Field> Draft<F> {
@@ -80,12 +90,7 @@ impl<F: Field> Draft<F> {
         ensures dependent { TellsDependence F.Field.ops self.old.basis row.now result }
         ensures kept { OnErr result (self.new ≡ self.old) }
     {
-        if row.len() != self.basis.length() {
-            return Err(Refusal::WrongLength(self.basis.length()));
-        }
-        if let Some(place) = first_no_symbol::<F>(row) {
-            return Err(Refusal::NoSymbol(place));
-        }
+        check_word::<F>(row, self.basis.length())?;
         if self.basis.extend::<F>(row) {
             Ok(self.basis.count())
         } else {

@@ -4,9 +4,9 @@ ghost use Rattle.generator.specs.Parts.{size, dimension};
 ghost use Rattle.tally.specs.Tallies.{counts_of, none_yet};
 ghost use Rattle.code.specs.Drafts.{State, Holds};
 ghost use Rattle.code.specs.Histories.{Call, Held, Follows};
-ghost use Rattle.code.specs.Codes.{Sealed, MessageEncoded, ReducedRead, CheckRead};
+ghost use Rattle.code.specs.Codes.{Sealed, BufferChecked, MessageEncoded, ReducedRead, CheckRead};
 
-use crate::draft::{Draft, first_no_symbol};
+use crate::draft::{Draft, check_word};
 use field::Field;
 use generator::Generator;
 use refusal::Refusal;
@@ -57,22 +57,25 @@ impl<F: Field> Code<F> {
         self.tally
     }
 
+    // Turns away a buffer that is not of the code's length.
+    fn check_buffer(&self, out: &[u8]) -> Result<(), Refusal>
+        ensures { BufferChecked self.now.generator (length out.now) result }
+    {
+        let n = self.generator.length();
+        if out.len() == n {
+            Ok(())
+        } else {
+            Err(Refusal::BufferLength(n))
+        }
+    }
+
     // Writes the codeword of a message.
     pub fn encode(&self, message: &[u8], out: &mut [u8]) -> Result<(), Refusal>
         ensures told { MessageEncoded F.Field.ops self.now.generator message.now (length out.old) out.new result }
         ensures kept { OnErr result (out.new ≡ out.old) }
     {
-        let k = self.generator.dimension();
-        if message.len() != k {
-            return Err(Refusal::WrongLength(k));
-        }
-        if let Some(place) = first_no_symbol::<F>(message) {
-            return Err(Refusal::NoSymbol(place));
-        }
-        let n = self.generator.length();
-        if out.len() != n {
-            return Err(Refusal::BufferLength(n));
-        }
+        check_word::<F>(message, self.generator.dimension())?;
+        self.check_buffer(out)?;
         self.generator.encode::<F>(message, out);
         Ok(())
     }
@@ -82,16 +85,13 @@ impl<F: Field> Code<F> {
         ensures told { ReducedRead F.Field.ops self.now.generator i (length out.old) out.new result }
         ensures kept { OnErr result (out.new ≡ out.old) }
     {
-        let n = self.generator.length();
-        if out.len() != n {
-            return Err(Refusal::BufferLength(n));
-        }
+        self.check_buffer(out)?;
         let k = self.generator.dimension();
         if i >= k {
             return Err(Refusal::Index(k));
         }
-        for p in 0..out.len() {
-            out[p] = self.generator.symbol::<F>(i, p);
+        for (p, symbol) in out.iter_mut().enumerate() {
+            *symbol = self.generator.symbol::<F>(i, p);
         }
         Ok(self.generator.place(i))
     }
@@ -101,11 +101,9 @@ impl<F: Field> Code<F> {
         ensures told { CheckRead F.Field.ops self.now.generator i (length out.old) out.new result }
         ensures kept { OnErr result (out.new ≡ out.old) }
     {
-        let n = self.generator.length();
-        if out.len() != n {
-            return Err(Refusal::BufferLength(n));
-        }
+        self.check_buffer(out)?;
         let Some(place) = self.generator.check_place(i) else {
+            let n = self.generator.length();
             return Err(Refusal::Index(n - self.generator.dimension()));
         };
         self.generator.check_row::<F>(place, out);
