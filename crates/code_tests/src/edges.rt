@@ -3,6 +3,7 @@ use crate::readings::{check_row, codeword, drafted, reduced_row};
 use code::Draft;
 use field::{Four, Sixteen, Three};
 use refusal::Refusal;
+use std::array;
 use std::test::Fail;
 
 #[test]
@@ -12,8 +13,8 @@ fn without_rows(rt: HostRuntime) -> Result<(), Fail> {
     assert_eq!(rt; code.dimension(), 0);
     assert_eq!(rt; codeword(&code, &[]), Ok([0, 0, 0]));
     let units = [[1, 0, 0], [0, 1, 0], [0, 0, 1]];
-    for i in 0..3 {
-        assert_eq!(rt; check_row(&code, i), Ok(units[i]));
+    for (i, unit) in units.iter().enumerate() {
+        assert_eq!(rt; check_row(&code, i), Ok(*unit));
     }
     let answer = code.reduced_row(0, &mut [0; 3]);
     assert_eq!(rt; answer, Err(Refusal::Index(0)));
@@ -38,19 +39,15 @@ fn as_many_rows_as_places(rt: HostRuntime) -> Result<(), Fail> {
 
 // The word of length 24 with 1 at the place i and 0 elsewhere.
 fn unit(i: usize) -> [u8; 24] {
-    let mut word = [0; 24];
-    if i < 24 {
-        word[i] = 1;
-    }
-    word
+    array::from_fn(|p| u8::from(p == i))
 }
 
 #[test]
 fn unit_rows(rt: HostRuntime) -> Result<(), Fail> {
     let mut draft = Draft::<Sixteen>::new();
     draft.set_length(24)?;
-    for i in 0..24 {
-        assert_eq!(rt; draft.push_row(&unit(23 - i)), Ok(i + 1));
+    for (held, i) in (0..24).rev().enumerate() {
+        assert_eq!(rt; draft.push_row(&unit(i)), Ok(held + 1));
     }
     let answer = draft.push_row(&[15; 24]);
     assert_eq!(rt; answer, Err(Refusal::Dependent(24)));

@@ -30,8 +30,8 @@ fn generator() -> Generator {
 // The codewords of the messages, by the generator.
 fn codewords(generator: &Generator) -> [[u8; 4]; 9] {
     let mut words = [[0; 4]; 9];
-    for m in 0..9u8 {
-        generator.encode::<Three>(&[m / 3, m % 3], &mut words[usize::from(m)]);
+    for (m, word) in (0..9u8).zip(words.iter_mut()) {
+        generator.encode::<Three>(&[m / 3, m % 3], word);
     }
     words
 }

@@ -2,46 +2,17 @@
 use crate::readings::{check_row, codeword, reduced_row};
 use code::{Code, Draft};
 use field::{Field, Four, Sixteen, Three, Two};
+use sampling::{Numbers, inner_product};
 use std::process::Abort;
 use std::test::Fail;
-
-// Numbers that look random, the same at each run.
-#[derive(Drop)]
-struct Numbers {
-    state: u32,
-}
-
-impl Numbers {
-    fn next(&mut self) -> u8 {
-        self.state = self.state.wrapping_mul(1664525).wrapping_add(1013904223);
-        (self.state >> 24) as u8
-    }
-
-    fn row<F: Field>(&mut self) -> [u8; 6] {
-        let mut row = [0; 6];
-        for p in 0..6 {
-            row[p] = self.next() % F::order();
-        }
-        row
-    }
-}
-
-// The sum of the products of two words, place by place.
-fn inner_product<F: Field>(a: &[u8; 6], b: &[u8; 6]) -> u8 {
-    let mut sum = 0;
-    for p in 0..6 {
-        sum = F::sum(sum, F::product(a[p], b[p]));
-    }
-    sum
-}
 
 // What a word carries at the information places of a code with two rows.
 fn carried<F: Field>(rt: &impl Abort, code: &Code<F>, word: &[u8; 6]) -> Result<[u8; 2], Fail> {
     let mut message = [0; 2];
-    for j in 0..2 {
+    for (j, symbol) in message.iter_mut().enumerate() {
         let (_, place) = reduced_row::<F, 6>(code, j)?;
         assert!(rt; place < 6);
-        message[j] = word[place];
+        *symbol = word[place];
     }
     Ok(message)
 }
@@ -51,7 +22,7 @@ fn encodes<F: Field>(rt: &impl Abort, code: &Code<F>, message: [u8; 2]) -> Resul
     let word = codeword(code, &message)?;
     assert_eq!(rt; carried(rt, code, &word)?, message);
     for i in 0..4 {
-        let row = check_row(code, i)?;
+        let row: [u8; 6] = check_row(code, i)?;
         assert_eq!(rt; inner_product::<F>(&word, &row), 0);
     }
     Ok(())
@@ -72,14 +43,15 @@ fn agrees<F: Field>(rt: &impl Abort, code: &Code<F>, rows: [[u8; 6]; 2]) -> Resu
 
 // Draws 40 pairs of rows; most are independent.
 fn samples_agree<F: Field>(rt: &impl Abort) -> Result<(), Fail> {
-    let mut numbers = Numbers { state: 1 };
+    let mut numbers = Numbers::after(1);
     let mut codes = 0u8;
     for _ in 0..40 {
-        let rows = [numbers.row::<F>(), numbers.row::<F>()];
+        let rows = [numbers.word(F::order()), numbers.word(F::order())];
         let mut draft = Draft::<F>::new();
         draft.set_length(6)?;
-        let _ = draft.push_row(&rows[0]);
-        let _ = draft.push_row(&rows[1]);
+        for row in &rows {
+            let _ = draft.push_row(row);
+        }
         if draft.count() == 2 {
             agrees(rt, &draft.seal(), rows)?;
             codes = codes.saturating_add(1);
