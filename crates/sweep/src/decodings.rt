@@ -1,141 +1,77 @@
 // Decodings, compared with the costs of all codewords.
-use crate::numbers::Numbers;
-use crate::sample::{Pair, Sample};
+use crate::drawing::{draw_spans, draw_word};
+use crate::kept::Kept;
+use crate::least_cost::Least;
+use crate::sample::Sample;
 use crate::subject::Subject;
-use crate::words::{LONGEST, Word, unwritten};
+use crate::words::{Word, unwritten, word_of};
 use field::Field;
 use reception::{Combined, Erased, HardWord, LevelWord, Reception, word_cost};
 use refusal::Refusal;
+use sampling::Numbers;
 
-// The least cost, how many codewords have it, and the message of the first that has it.
-#[derive(Clone, Copy)]
-struct Cheapest {
-    cost: u32,
-    ways: u32,
-    message: Word,
-}
-
-fn enumerate_costs<R: Reception>(pairs: &Vec<Pair>, n: usize, reception: &R) -> Cheapest {
-    let mut least = Cheapest {
-        cost: u32::MAX,
-        ways: 0,
-        message: [0; LONGEST],
-    };
-    for pair in pairs.iter() {
-        let cost = word_cost(reception, &pair.word[0..n.min(LONGEST)]).unwrap_or(u32::MAX);
-        if least.ways == 0 || cost < least.cost {
-            least = Cheapest {
-                cost,
-                ways: 1,
-                message: pair.message,
-            };
-        } else if cost == least.cost {
-            least.ways = least.ways.saturating_add(1);
-        }
-    }
-    least
+// The least cost of the codewords, each with its message's number.
+fn cheapest<R: Reception>(codewords: &[Word], heard: &R) -> Option<Least> {
+    codewords
+        .iter()
+        .enumerate()
+        .fold(None, |so_far, (number, word)| {
+            let cost = word_cost(heard, word).unwrap_or(u32::MAX);
+            Some(Least::of_one_more(so_far, number, cost))
+        })
 }
 
 impl<F: Field> Sample<F> {
-    // Counts a decoding as enumerated, and gives what the message buffer should hold after it.
-    fn count_decoding(&mut self, least: &Cheapest) -> Word {
-        if least.ways == 1 {
-            self.kept.answered = self.kept.answered.saturating_add(1);
-            self.kept.cost = self.kept.cost.saturating_add(least.cost as u64);
-            least.message
+    // Counts a decoding as enumerated, and gives what it should answer and what the message buffer
+    // should hold after it.
+    fn count_decoding(&mut self, least: Least) -> (Result<u32, Refusal>, Word) {
+        let k = self.shape.dimension;
+        if least.is_sole() {
+            self.kept.add_answered(least.cost);
+            (Ok(least.cost), word_of::<F>(least.last, k))
         } else {
-            self.kept.tied = self.kept.tied.saturating_add(1);
-            unwritten(self.dimension)
+            self.kept.add_tied();
+            (Err(Refusal::Tied(least.cost)), unwritten(k))
         }
     }
 
-    // Decodes, and tells whether the answer, the message written and the work memory are right.
-    fn decodes<R: Reception>(&mut self, reception: &R) -> bool {
-        let least = enumerate_costs(&self.pairs, self.length, reception);
-        let expected = self.count_decoding(&least);
-        let k = self.dimension.min(LONGEST);
-        let mut message = unwritten(k);
+    // Decodes what is heard, and compares the answer, the message written and the work memory.
+    fn check_decoding<R: Reception>(&mut self, what: Subject, heard: &R) -> Result<(), Subject> {
+        let least = cheapest(&self.codewords, heard).ok_or(what)?;
+        let expected = self.count_decoding(least);
+        let mut message = unwritten(self.shape.dimension);
         self.soil();
-        let work = self.work.as_mut_slice();
-        let right = match self.code.decode(reception, work, &mut message[0..k]) {
-            Ok(cost) => least.ways == 1 && cost == least.cost,
-            Err(Refusal::Tied(cost)) => least.ways > 1 && cost == least.cost,
-            Err(_) => false,
-        };
-        right && message == expected && self.is_clear()
+        let answer = self.code.decode(heard, &mut self.work, &mut message);
+        what.agrees_if((answer, message) == expected && self.is_clear())
     }
 
-    // A hard word, some of whose bytes are no symbols.
-    fn decodes_hard(&mut self, numbers: &mut Numbers) -> bool {
-        self.what = Subject::HardWord;
-        let bytes = numbers.word(F::order().saturating_add(2));
-        self.decodes(&HardWord::new(&bytes[0..self.length.min(LONGEST)]))
+    // Draws one reception of each kind, and compares how they are decoded. Some of the bytes of the
+    // first are no symbols, and some of those of the second no levels.
+    pub(crate) fn check_decodings(&mut self, numbers: &mut Numbers) -> Result<(), Subject> {
+        let n = self.shape.length;
+        let q = F::order();
+        let hard = draw_word(numbers, q.saturating_add(2), n);
+        self.check_decoding(Subject::HardWord, &HardWord::new(&hard))?;
+        let levels = draw_word(numbers, 10, n);
+        self.check_decoding(Subject::LevelWord, &LevelWord::new(&levels))?;
+        let hard = draw_word(numbers, q, n);
+        let spans = draw_spans(numbers, &hard);
+        let mut erased = Erased::new(HardWord::new(&hard));
+        erased.set_spans(&spans).map_err(|_| Subject::Erasures)?;
+        self.check_decoding(Subject::Erasures, &erased)?;
+        let hard = draw_word(numbers, q, n);
+        let levels = draw_word(numbers, 10, n);
+        let both = Combined::new(HardWord::new(&hard), LevelWord::new(&levels));
+        self.check_decoding(Subject::HardAndLevel, &both)?;
+        let hard = draw_word(numbers, q, n);
+        let other = draw_word(numbers, q, n);
+        let both = Combined::new(HardWord::new(&hard), HardWord::new(&other));
+        self.check_decoding(Subject::TwoHard, &both)
     }
 
-    // A level word, some of whose bytes are no levels.
-    fn decodes_levels(&mut self, numbers: &mut Numbers) -> bool {
-        self.what = Subject::LevelWord;
-        let levels = numbers.word(10);
-        self.decodes(&LevelWord::new(&levels[0..self.length.min(LONGEST)]))
-    }
-
-    // A hard word with erasures.
-    fn decodes_erased(&mut self, numbers: &mut Numbers) -> bool {
-        self.what = Subject::Erasures;
-        let n = self.length.min(LONGEST);
-        let bytes = numbers.word(F::order());
-        let (spans, used) = numbers.spans(n as u8);
-        let mut erased = Erased::new(HardWord::new(&bytes[0..n]));
-        erased.set_spans(&spans[0..used.min(8)]).is_ok() && self.decodes(&erased)
-    }
-
-    // Two receptions together: a hard word and a level word.
-    fn decodes_mixed(&mut self, numbers: &mut Numbers) -> bool {
-        self.what = Subject::HardAndLevel;
-        let n = self.length.min(LONGEST);
-        let bytes = numbers.word(F::order());
-        let levels = numbers.word(10);
-        let hard = HardWord::new(&bytes[0..n]);
-        self.decodes(&Combined::new(hard, LevelWord::new(&levels[0..n])))
-    }
-
-    // Two receptions together: two hard words.
-    fn decodes_twice(&mut self, numbers: &mut Numbers) -> bool {
-        self.what = Subject::TwoHard;
-        let n = self.length.min(LONGEST);
-        let bytes = numbers.word(F::order());
-        let other = numbers.word(F::order());
-        let hard = HardWord::new(&bytes[0..n]);
-        self.decodes(&Combined::new(hard, HardWord::new(&other[0..n])))
-    }
-
-    // Draws one reception of each kind, and tells whether all are decoded as enumerated.
-    pub(crate) fn decodes_all(&mut self, numbers: &mut Numbers) -> bool {
-        self.decodes_hard(numbers)
-            && self.decodes_levels(numbers)
-            && self.decodes_erased(numbers)
-            && self.decodes_mixed(numbers)
-            && self.decodes_twice(numbers)
-    }
-
-    fn has_figure(&self) -> bool {
-        let kept = self.kept;
-        match self.code.noise_figure() {
-            Ok(figure) => {
-                kept.answered > 0
-                    && figure == kept.cost.saturating_mul(1000) / u64::from(kept.answered)
-            }
-            Err(refusal) => kept.answered == 0 && refusal == Refusal::NoneAnswered,
-        }
-    }
-
-    // Whether the tally and the noise figure are those of the decodings as enumerated.
-    pub(crate) fn tallies(&mut self) -> bool {
-        self.what = Subject::Tally;
-        let tally = self.code.tally();
-        tally.answered() == self.kept.answered
-            && tally.tied() == self.kept.tied
-            && tally.cost() == self.kept.cost
-            && self.has_figure()
+    // Compares the tally and the noise figure with those of the decodings as enumerated.
+    pub(crate) fn check_tally(&self) -> Result<(), Subject> {
+        let tallied = Kept::from(self.code.tally()) == self.kept;
+        Subject::Tally.agrees_if(tallied && self.code.noise_figure() == self.kept.noise_figure())
     }
 }

@@ -1,34 +1,27 @@
 // The minimum distance, compared with all pairs of codewords.
-use crate::sample::{Pair, Sample};
+use crate::sample::Sample;
 use crate::subject::Subject;
-use crate::words::differing;
+use crate::words::{Word, differing};
 use field::Field;
 
 // The least number of places in which two of the codewords differ, or nothing where there is one.
-fn least_distance(pairs: &[Pair]) -> Option<u32> {
-    let mut least = None;
-    for i in 0..pairs.len() {
-        for j in 0..i {
-            let distance = differing(&pairs[i].word, &pairs[j].word);
-            least = match least {
-                None => Some(distance),
-                Some(other) => Some(distance.min(other)),
-            };
-        }
-    }
-    least
+fn least_distance(codewords: &[Word]) -> Option<u32> {
+    codewords
+        .iter()
+        .enumerate()
+        .flat_map(|(i, a)| codewords.iter().take(i).map(move |b| differing(a, b)))
+        .min()
 }
 
 impl<F: Field> Sample<F> {
-    // Whether the distance is that of the pairs, and the work memory is clear.
-    pub(crate) fn measures(&mut self) -> bool {
-        self.what = Subject::Distance;
-        let least = least_distance(self.pairs.as_slice());
+    // Compares the distance with that of the pairs, and the work memory.
+    pub(crate) fn check_distance(&mut self) -> Result<(), Subject> {
+        let least = least_distance(&self.codewords);
         self.soil();
-        let right = match self.code.distance(self.work.as_mut_slice()) {
-            Ok(distance) => distance == least && least.is_none() == (self.dimension == 0),
-            Err(_) => false,
-        };
-        right && self.is_clear()
+        let answer = self.code.distance(&mut self.work);
+        let alone = self.shape.dimension == 0;
+        Subject::Distance.agrees_if(
+            answer == Ok(least) && least.is_none() == alone && self.is_clear(),
+        )
     }
 }

@@ -4,28 +4,28 @@
 
 use field::{Field, Four, Sixteen, Three, Two};
 use std::io;
-use sweeping::sweep_field;
+use sweeping::Sweep;
 
+mod counts;
 mod decodings;
 mod distances;
+mod drawing;
+mod kept;
 mod leaders;
-mod numbers;
+mod least_cost;
 mod sample;
+mod shape;
 mod subject;
 mod sweeping;
 mod words;
 
 // Sweeps over a field, and prints how much was compared.
 fn sweep<F: Field>(rt: &HostRuntime, longest: usize, samples: usize) -> io::Result<()> {
-    let counts = sweep_field::<F>(rt, longest, samples)?;
-    let q = F::order();
-    let codes = counts.codes;
-    let answered = counts.answered;
-    let tied = counts.tied;
-    let sole = counts.sole;
-    let shared = counts.shared;
-    print!(rt; "order {q}: {codes} codes; decodings: {answered} answered, {tied} tied; ")?;
-    println!(rt; "leaders: {sole} sole, {shared} shared; distances: {codes}")
+    let mut sweep = Sweep::new(samples);
+    sweep.compare_field::<F>(rt, longest)?;
+    let order = F::order();
+    let counts = sweep.counts;
+    println!(rt; "order {order}: {counts}")
 }
 
 // A difference ends the run with an error.

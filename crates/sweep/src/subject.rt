@@ -1,5 +1,8 @@
-// What is compared, by name.
-#[derive(Clone, Copy)]
+// What is compared, and how a comparison fails.
+use std::alloc::{AllocError, AllocFailed};
+use std::fmt;
+
+#[derive(Clone, Copy, Debug, PartialEq, Eq)]
 pub(crate) enum Subject {
     Encoding,
     HardWord,
@@ -13,8 +16,15 @@ pub(crate) enum Subject {
 }
 
 impl Subject {
-    pub(crate) fn name(&self) -> &'static str {
-        match self {
+    // A difference in this, unless what was compared is right.
+    pub(crate) fn agrees_if(self, right: bool) -> Result<(), Subject> {
+        if right { Ok(()) } else { Err(self) }
+    }
+}
+
+impl fmt::Display for Subject {
+    fn fmt<W: fmt::Write>(&self, f: &mut fmt::Formatter<W>) -> fmt::Result {
+        f.write_str(match self {
             Subject::Encoding => "encoding",
             Subject::HardWord => "decoding of a hard word",
             Subject::LevelWord => "decoding of a level word",
@@ -24,6 +34,31 @@ impl Subject {
             Subject::Tally => "tally or noise figure",
             Subject::Distance => "distance",
             Subject::Leader => "leader",
-        }
+        })
+    }
+}
+
+// Why a code is not compared to the end.
+#[derive(Clone, Copy)]
+pub(crate) enum Fault {
+    Differs(Subject),
+    Memory(AllocError),
+}
+
+impl From<Subject> for Fault {
+    fn from(what: Subject) -> Fault {
+        Fault::Differs(what)
+    }
+}
+
+impl From<AllocError> for Fault {
+    fn from(error: AllocError) -> Fault {
+        Fault::Memory(error)
+    }
+}
+
+impl<T: Drop> From<AllocFailed<T>> for Fault {
+    fn from(failed: AllocFailed<T>) -> Fault {
+        Fault::Memory(failed.into())
     }
 }

@@ -1,10 +1,13 @@
 // A sweep over codes of every length and dimension of a field.
-use crate::numbers::Numbers;
-use crate::sample::{Kept, Sample};
-use crate::subject::Subject;
-use crate::words::{LONGEST, power};
+use crate::counts::Counts;
+use crate::drawing::draw_code;
+use crate::sample::Sample;
+use crate::shape::Shape;
+use crate::subject::{Fault, Subject};
+use crate::words::LONGEST;
 use field::Field;
-use std::alloc::{AllocError, Global};
+use sampling::Numbers;
+use std::alloc::Global;
 use std::io;
 
 // The most codewords of a code that is compared.
@@ -22,119 +25,74 @@ const MOST_LEADERS: usize = 256;
 // How many receptions of each kind are decoded with a code.
 const ROUNDS: usize = 3;
 
-// How much was compared.
-#[derive(Clone, Copy)]
-pub(crate) struct Counts {
-    pub(crate) codes: u32,
-    pub(crate) answered: u32,
-    pub(crate) tied: u32,
-    pub(crate) sole: usize,
-    pub(crate) shared: usize,
-}
-
-impl Counts {
-    // Counts a code with its decodings.
-    fn add_code(&mut self, kept: Kept) {
-        self.codes = self.codes.saturating_add(1);
-        self.answered = self.answered.saturating_add(kept.answered);
-        self.tied = self.tied.saturating_add(kept.tied);
-    }
-
-    // Counts the leaders of a code.
-    fn add_leaders(&mut self, sole: usize, cosets: usize) {
-        self.sole = self.sole.saturating_add(sole);
-        self.shared = self.shared.saturating_add(cosets.saturating_sub(sole));
-    }
-}
-
-// Whether the decodings, the tally and the distance of a code are as enumerated.
-fn agrees<F: Field>(sample: &mut Sample<F>, numbers: &mut Numbers) -> bool {
-    for _ in 0..ROUNDS {
-        if !sample.decodes_all(numbers) {
-            return false;
-        }
-    }
-    sample.tallies() && sample.measures()
-}
-
-// Compares the leaders of a code, unless there is too much to enumerate, and tells whether all are as
-// enumerated.
-fn leaders_agree<F: Field>(
-    heap: Global,
-    sample: &mut Sample<F>,
-    counts: &mut Counts,
-) -> Result<bool, AllocError> {
-    let words = power(F::order(), sample.length);
-    if words > MOST_WORDS || sample.cosets > MOST_LEADERS {
-        return Ok(true);
-    }
-    let Some(sole) = sample.sole_leaders(heap, words)? else {
-        return Ok(false);
-    };
-    counts.add_leaders(sole, sample.cosets);
-    Ok(true)
-}
-
-// Draws a code of n places with k rows, and compares all that is enumerated of it. Answers what
-// differs, if anything does.
-fn sweep_code<F: Field>(
-    heap: Global,
-    numbers: &mut Numbers,
-    n: usize,
-    k: usize,
-    counts: &mut Counts,
-) -> Result<Option<Subject>, AllocError> {
-    let mut sample = Sample::<F>::new(heap, numbers, n, k)?;
-    let right = sample.length == n && sample.pairs.len() == power(F::order(), k);
-    if right && agrees(&mut sample, numbers) && leaders_agree(heap, &mut sample, counts)? {
-        counts.add_code(sample.kept);
-        return Ok(None);
-    }
-    Ok(Some(sample.what))
-}
-
-// Compares `samples` codes of n places with k rows, unless there is too much to enumerate. What
-// differs is printed, and ends the sweep.
-fn sweep_shape<F: Field>(
-    rt: &HostRuntime,
-    numbers: &mut Numbers,
-    n: usize,
-    k: usize,
+#[derive(Drop)]
+pub(crate) struct Sweep {
+    numbers: Numbers,
+    // How many codes of each shape are drawn.
     samples: usize,
-    counts: &mut Counts,
-) -> io::Result<()> {
-    let q = F::order();
-    if power(q, k) > MOST_CODEWORDS || power(q, n.saturating_sub(k)) > MOST_COSETS {
-        return Ok(());
-    }
-    for _ in 0..samples {
-        if let Some(what) = sweep_code::<F>(rt.alloc(), numbers, n, k, counts)? {
-            let name = what.name();
-            println!(rt; "differs: {name}, at order {q}, length {n}, dimension {k}")?;
-            return Err(io::ErrorKind::InvalidData.into());
-        }
-    }
-    Ok(())
+    pub(crate) counts: Counts,
 }
 
-// Compares `samples` codes of each length up to `longest` and each dimension.
-pub(crate) fn sweep_field<F: Field>(
-    rt: &HostRuntime,
-    longest: usize,
-    samples: usize,
-) -> io::Result<Counts> {
-    let mut numbers = Numbers { state: 1 };
-    let mut counts = Counts {
-        codes: 0,
-        answered: 0,
-        tied: 0,
-        sole: 0,
-        shared: 0,
-    };
-    for n in 1..=longest.min(LONGEST) {
-        for k in 0..=n {
-            sweep_shape::<F>(rt, &mut numbers, n, k, samples, &mut counts)?;
+impl Sweep {
+    pub(crate) fn new(samples: usize) -> Sweep {
+        Sweep {
+            numbers: Numbers::after(1),
+            samples,
+            counts: Counts::default(),
         }
     }
-    Ok(counts)
+
+    // Draws a code of a shape, and compares all that is enumerated of it. Leaders are left out where
+    // there is too much to enumerate.
+    fn compare_code<F: Field>(&mut self, heap: Global, shape: Shape) -> Result<(), Fault> {
+        let code = draw_code::<F>(&mut self.numbers, shape);
+        let mut sample = Sample::new(heap, code)?;
+        Subject::Encoding.agrees_if(sample.shape == shape)?;
+        for _ in 0..ROUNDS {
+            sample.check_decodings(&mut self.numbers)?;
+        }
+        sample.check_tally()?;
+        sample.check_distance()?;
+        let cosets = shape.cosets::<F>();
+        if shape.words::<F>() <= MOST_WORDS && cosets <= MOST_LEADERS {
+            let sole = sample.check_leaders(heap)?;
+            self.counts.add_leaders(sole, cosets);
+        }
+        self.counts.add_code(sample.kept);
+        Ok(())
+    }
+
+    // Compares codes of a shape, unless there is too much to enumerate. What differs is printed, and
+    // ends the sweep.
+    fn compare_shape<F: Field>(&mut self, rt: &HostRuntime, shape: Shape) -> io::Result<()> {
+        if shape.codewords::<F>() > MOST_CODEWORDS || shape.cosets::<F>() > MOST_COSETS {
+            return Ok(());
+        }
+        for _ in 0..self.samples {
+            match self.compare_code::<F>(rt.alloc(), shape) {
+                Ok(()) => {}
+                Err(Fault::Memory(error)) => return Err(error.into()),
+                Err(Fault::Differs(what)) => {
+                    let order = F::order();
+                    println!(rt; "differs: {what}, at order {order}, {shape}")?;
+                    return Err(io::ErrorKind::InvalidData.into());
+                }
+            }
+        }
+        Ok(())
+    }
+
+    // Compares codes of each length up to `longest` and each dimension.
+    pub(crate) fn compare_field<F: Field>(
+        &mut self,
+        rt: &HostRuntime,
+        longest: usize,
+    ) -> io::Result<()> {
+        for length in 1..=longest.min(LONGEST) {
+            for dimension in 0..=length {
+                self.compare_shape::<F>(rt, Shape { length, dimension })?;
+            }
+        }
+        Ok(())
+    }
 }

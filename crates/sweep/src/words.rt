@@ -1,53 +1,49 @@
 // Words of any field, and how all words of a length are enumerated.
+use arrayvec::ArrayVec;
 use field::Field;
 
 // The most places that a word has here.
 pub(crate) const LONGEST: usize = 8;
 
-// A word stands at the first of these places.
-pub(crate) type Word = [u8; LONGEST];
+pub(crate) type Word = ArrayVec<u8, LONGEST>;
 
 // No symbol of any field.
 const UNWRITTEN: u8 = 170;
 
+// A word of n places that all hold this number.
+fn filled(number: u8, n: usize) -> Word {
+    let mut word = Word::from([number; LONGEST]);
+    word.truncate(n);
+    word
+}
+
 // What a buffer for n places holds before a call.
 pub(crate) fn unwritten(n: usize) -> Word {
-    let mut word = [0; LONGEST];
-    for p in 0..n.min(LONGEST) {
-        word[p] = UNWRITTEN;
-    }
-    word
+    filled(UNWRITTEN, n)
+}
+
+// How many words of n symbols there are, or the largest number where they are more.
+pub(crate) fn count_words<F: Field>(n: usize) -> usize {
+    usize::from(F::order()).saturating_pow(u32::try_from(n).unwrap_or(u32::MAX))
 }
 
 // The word of n places whose digits to the base q write this number, the first place first. So a word
 // of a larger number has the larger symbol at the first place where the two differ.
 pub(crate) fn word_of<F: Field>(number: usize, n: usize) -> Word {
-    let base = F::order().max(1) as usize;
-    let mut word = [0; LONGEST];
+    let base = usize::from(F::order().max(1));
+    let mut word = filled(0, n);
     let mut rest = number;
-    for p in (0..n.min(LONGEST)).rev() {
-        word[p] = (rest % base) as u8;
+    for symbol in word.iter_mut().rev() {
+        *symbol = (rest % base) as u8;
         rest /= base;
     }
     word
 }
 
-// `base` to the power `digits`, or the largest number where that is larger.
-pub(crate) fn power(base: u8, digits: usize) -> usize {
-    let mut power = 1usize;
-    for _ in 0..digits {
-        power = power.saturating_mul(base as usize);
-    }
-    power
-}
-
 // In how many places two words differ.
-pub(crate) fn differing(a: &Word, b: &Word) -> u32 {
-    let mut count = 0u32;
-    for p in 0..LONGEST {
-        if a[p] != b[p] {
-            count = count.saturating_add(1);
-        }
-    }
-    count
+pub(crate) fn differing(a: &[u8], b: &[u8]) -> u32 {
+    a.iter().zip(b).fold(
+        0,
+        |count: u32, (x, y)| count.saturating_add(u32::from(x != y)),
+    )
 }
