@@ -9,27 +9,31 @@ use field::{Field, Four, Sixteen, Three, Two};
 use reception::HardWord;
 use refusal::Refusal;
 
-// Seals the code of rows that stand end to end, and decodes the word so many times.
-fn decode_often<F: Field>(
+// The rows of a code end to end, n places each, and a word that is decoded so many times.
+#[derive(Clone, Copy)]
+struct Task<'a> {
     n: usize,
-    rows: &[u8],
-    word: &[u8],
-    work: &mut [u32],
-    message: &mut [u8],
+    rows: &'a [u8],
+    word: &'a [u8],
     times: u32,
-) -> Result<u32, Refusal> {
-    let mut draft = Draft::<F>::new();
-    draft.set_length(n)?;
-    for row in rows.chunks(n) {
-        draft.push_row(row)?;
+}
+
+impl<'a> Task<'a> {
+    // Seals the code, and decodes the word.
+    fn decode<F: Field>(&self, work: &mut [u32], message: &mut [u8]) -> Result<u32, Refusal> {
+        let mut draft = Draft::<F>::new();
+        draft.set_length(self.n)?;
+        for row in self.rows.chunks(self.n) {
+            draft.push_row(row)?;
+        }
+        let mut code = draft.seal();
+        let heard = HardWord::new(self.word);
+        let mut answer = Ok(0);
+        for _ in 0..self.times {
+            answer = code.decode(&heard, work, message);
+        }
+        answer
     }
-    let mut code = draft.seal();
-    let heard = HardWord::new(word);
-    let mut answer = Ok(0);
-    for _ in 0..times {
-        answer = code.decode(&heard, work, message);
-    }
-    answer
 }
 
 // Answers the cost of the last decoding, or 1,000 plus the number of a refusal. Where there is no
@@ -46,16 +50,19 @@ pub extern "C" fn bench_decode(
 ) -> u32
     ensures { (Known q → ⊥) → (result ≡ 1000) × (work.new ≡ work.old) × (message.new ≡ message.old) }
 {
-    let n = n as usize;
+    let task = Task {
+        n: n as usize,
+        rows,
+        word,
+        times,
+    };
+    // C names the field by a number, and the field is a type here, so this is where one is chosen.
     let answer = match q {
-        2 => decode_often::<Two>(n, rows, word, work, message, times),
-        3 => decode_often::<Three>(n, rows, word, work, message, times),
-        4 => decode_often::<Four>(n, rows, word, work, message, times),
-        16 => decode_often::<Sixteen>(n, rows, word, work, message, times),
+        2 => task.decode::<Two>(work, message),
+        3 => task.decode::<Three>(work, message),
+        4 => task.decode::<Four>(work, message),
+        16 => task.decode::<Sixteen>(work, message),
         _ => return 1_000,
     };
-    match answer {
-        Ok(cost) => cost,
-        Err(refusal) => 1_000 + refusal.number() as u32,
-    }
+    answer.unwrap_or_else(|refusal| 1_000 + u32::from(refusal.number()))
 }
