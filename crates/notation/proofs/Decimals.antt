@@ -1,43 +1,33 @@
--- Decimal numbers, digit by digit.
-use Rattle.std.proofs.Common.{◌≡◌, ℕ, ◌+◌, ◌-◌, ◌*◌, ◌^◌, ◌<◌, ◌≤◌, List, length, get_or, take, Some, None, sym, ap, ◌∙◌, subst, arith}
-use native.Mathlib.Nat.{pow-le-pow_right}
-use Rattle.std.proofs.lemmas.Int.Digits.{digits_value-lt, digits_value_more, digits_more}
-use Rattle.std.proofs.lemmas.List.{length-take-le, take_all}
-use Rattle.std.proofs.lemmas.Str.Parse.{digit_at}
-use Rattle.std.proofs.lemmas.Str.{digit_value_digit}
-use Rattle.std.specs.Str.Parse.{AllDigits, digits_value}
-use Rattle.std.specs.Char.{digit_value}
+-- Numbers in decimal.
+use Rattle.std.proofs.Common.{ℕ, ◌≤◌, ◌<◌, ◌^◌, List, length, get_or, None, Result, Ok, Err, sym, ◌∙◌, arith}
+use Rattle.std.proofs.lemmas.Str.Parse.{IsNumeralModel, numerals_by_value, tells_by_index, digits_value_short, digit_at, parse_digits}
+use Rattle.std.proofs.lemmas.Fmt.{IsAscii-from_digits}
+use Rattle.std.proofs.lemmas.Str.{IsUtf8-from_ascii}
 use Rattle.std.specs.Int.{IsInRange}
-use Rattle.notation.specs.Commands.{Number, Order}
+use Rattle.std.specs.Result.{result_ok}
+use Rattle.std.specs.Str.{IsUtf8}
+use Rattle.std.specs.Str.Parse.{ParsesUnsigned, digits_value}
+use Rattle.notation.specs.Commands.{Number}
 use Rattle.notation.specs.Only.{Only}
 
--- n is what the first i bytes of the text write, all of them digits
-abbrev pub Sofar : List ℕ → ℕ → ℕ → Type 0
-Sofar text i n = AllDigits 10 (take i text) × (n ≡ digits_value 10 (take i text))
+-- each byte of the text is a digit
+abbrev pub EachDigit : List ℕ → Type 0
+EachDigit text = (i : ℕ) → i < length text → IsInRange 48 57 (get_or text i 0)
 
-pub sofar_more : (text : List ℕ) (i n d : ℕ) → i < length text → IsInRange 48 57 (get_or text i 0) → d ≡ get_or text i 0 - 48 → Sofar text i n → Sofar text (i + 1) (n * 10 + d)
-sofar_more text i n d h range is s =
-    let digit : digit_value (get_or text i 0) ≡ d = omega (arith, digit_value_digit (get_or text i 0) range) in (
-      digits_more 10 text i h s.0 (omega (arith, digit)),
-      ap (λ (m : ℕ). m * 10 + d) s.1 ∙ ap (λ (m : ℕ). digits_value 10 (take i text) * 10 + m) (sym digit) ∙ sym (digits_value_more 10 text i h),
-    )
-
--- three digits write a number below a thousand
-pub sofar_small : (text : List ℕ) (i n : ℕ) → i ≤ length text → i ≤ 3 → Sofar text i n → n < 1000
-sofar_small text i n h few s =
-    let long : length (take i text) ≡ i = length-take-le i text h in
-    let below : digits_value 10 (take i text) < 10 ^ i = subst (λ (k : ℕ). digits_value 10 (take i text) < 10 ^ k) long (digits_value-lt 10 (take i text) s.0) in
-    let least : 10 ^ i ≤ 1000 = pow-le-pow_right (omega arith) few in
-    omega (arith, s.1)
-
-pub number_only : (text : List ℕ) (i n : ℕ) → 0 < length text → length text ≤ 3 → length text ≤ i → Sofar text i n → Only (Number text) (Some n)
-number_only text i n some few end s =
-    let all : take i text ≡ text = take_all i text end in
-    let is : n ≡ digits_value 10 text = s.1 ∙ ap (digits_value 10) all in
-    ((some, few, subst (AllDigits 10) all s.0, is), λ y k. k.3 ∙ sym is)
+own : IsNumeralModel EachDigit (digits_value 10)
+own = numerals_by_value EachDigit tells_by_index
 
 pub no_number : (text : List ℕ) (i : ℕ) → i < length text → (IsInRange 48 57 (get_or text i 0) → ⊥) → Only (Number text) None
 no_number text i h out y k = out (digit_at text i k.2 h)
 
-pub order_only : (text : List ℕ) (q : ℕ) → Order text q → Only (Order text) (Some q)
-order_only text q o = (o, λ y k. k.1 ∙ sym o.1)
+pub digits_utf8 : (text : List ℕ) → EachDigit text → IsUtf8 text
+digits_utf8 text h = IsUtf8-from_ascii text (IsAscii-from_digits text (own.to text h))
+
+pub number_parsed : {E : Type 0} (text : List ℕ) (r : Result ℕ E) → length text ≤ 3 → EachDigit text → ParsesUnsigned 64 10 text r → Only (Number text) (result_ok r)
+number_parsed {E} text (Ok n) few h p =
+    let k = parse_digits own {E = E} 64 text (Ok n) p h in
+    ((k.0.0, few, own.to text h, k.1), λ y j. j.3 ∙ sym k.1)
+number_parsed {E} text (Err e) few h p = λ y j.
+    let k = parse_digits own {E = E} 64 text (Err e) p h in
+    let small : digits_value 10 text < 10 ^ 3 = digits_value_short own text 3 h few in
+    k (j.0, omega arith)

@@ -1,9 +1,8 @@
 pub mod Characters
 pub mod Decimals
 pub mod Lines
-pub mod Pairs
+pub mod Named
+pub mod Only
 pub mod Printing
-pub mod Sayings
 pub mod Spaces
 pub mod Spelling
-pub mod Ways

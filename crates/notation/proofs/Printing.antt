@@ -1,47 +1,43 @@
 -- How a word is printed.
-use Rattle.std.proofs.Common.{◌≡◌, ℕ, ◌+◌, ◌<◌, ◌≤◌, List, [], ◌∷◌, ◌++◌, length, get_or, Some, None, codes, Option, unwrap_or, sym, refl, ap, ◌∙◌, subst, inl, inr, arith, below_more}
-use Rattle.std.proofs.lemmas.List.{get_or_append_left, get_or_push, nil_from_length}
-use Rattle.std.proofs.lemmas.Bool.{cases_lt}
+use Rattle.std.proofs.Common.{◌≡◌, ℕ, ◌+◌, ◌<◌, ◌≤◌, List, [], ◌∷◌, ◌++◌, length, map, take, get_or, encode_utf8, Some, None, codes, Option, unwrap_or, sym, refl, ap, ◌∙◌, subst, inl, inr, arith}
+use Rattle.std.proofs.lemmas.Bool.{cases_lt, cond_below, cond_above}
+use Rattle.std.proofs.lemmas.List.{get_or-map, length-map, map-append, take_more}
+use Rattle.std.proofs.lemmas.Str.{encode_ascii}
 use Rattle.notation.specs.Only.{Only}
-use Rattle.notation.specs.Symbols.{Written}
-use Rattle.notation.specs.Words.{Placed, Prints, Readable, Spells, Shows, Writable}
-use Rattle.notation.proofs.Characters.{ranges, written}
+use Rattle.notation.specs.Symbols.{Writes, Written}
+use Rattle.notation.specs.Words.{Placed, printed, Prints, Readable, shown, Shows, Spells, Writable}
+use Rattle.notation.proofs.Characters.{one_character, ranges}
 use Rattle.notation.proofs.Spelling.{one_word}
 
--- a character, or `?` where there is none
-pub shows_or_mark : (v : ℕ) (o : Option ℕ) → Only (Written v) o → Shows (unwrap_or o 63) v
-shows_or_mark v (Some c) h = inl h.0
-shows_or_mark v None h =
+shows_shown : (v : ℕ) → Shows (shown v) v
+unfolding shown Writes
+shows_shown v =
     elim (cases_lt v 16) [
-      | inl l ↦ let w = written v l in absurd (h w.0 w.1)
-      | inr l ↦ inr (l, refl)
+      | inl h ↦ inl (h, sym (cond_below v 16 (get_or (codes "0123456789abcdef") v 0) 63 h))
+      | inr h ↦ inr (h, sym (cond_above v 16 (get_or (codes "0123456789abcdef") v 0) 63 63 h refl))
     ]
 
--- what stands for a number is ASCII
-pub shows_ascii : (c v : ℕ) → Shows c v → c < 128
-shows_ascii c v (inl w) = omega (arith, ranges c v w)
-shows_ascii c v (inr p) = omega (arith, p.1)
+-- what is shown for a number is ASCII
+pub shown_ascii : (v : ℕ) → shown v < 128
+shown_ascii v = elim (shows_shown v) [ inl w ↦ omega (arith, ranges (shown v) v w) | inr p ↦ omega (arith, p.1) ]
 
--- one more character
-pub pushed : (after before bytes : List ℕ) (c : ℕ) → after ≡ before ++ bytes → bytes ≡ c ∷ [] → after ≡ before ++ c ∷ []
-pushed after before bytes c e one = e ∙ ap (λ (xs : List ℕ). before ++ xs) one
+-- it is the character that writes the number, or `?` where none does
+pub marked : (v : ℕ) (o : Option ℕ) → Only (Written v) o → unwrap_or o 63 ≡ shown v
+marked v (Some c) h = elim (shows_shown v) [ inl w ↦ one_character (shown v) c v w h.0 | inr p ↦ absurd (omega (arith, p.0, ranges c v h.0)) ]
+marked v None h = elim (shows_shown v) [ inl w ↦ absurd (h (shown v) w) | inr p ↦ sym p.1 ]
 
-pub shows_more : (bytes after word : List ℕ) (i c : ℕ) → after ≡ bytes ++ c ∷ [] → length bytes ≡ i → ((k : ℕ) → k < i → Shows (get_or bytes k 0) (get_or word k 0)) → Shows c (get_or word i 0) → (k : ℕ) → k < i + 1 → Shows (get_or after k 0) (get_or word k 0)
-shows_more bytes after word i c e long each here =
-    below_more (λ (k : ℕ). Shows (get_or after k 0) (get_or word k 0)) i
-    (λ k h.
-    let same : get_or after k 0 ≡ get_or bytes k 0 = ap (λ (xs : List ℕ). get_or xs k 0) e ∙ get_or_append_left bytes (c ∷ []) 0 k (omega arith) in
-    subst (λ (x : ℕ). Shows x (get_or word k 0)) (sym same) (each k h))
-    (let same : get_or after i 0 ≡ c = ap (λ (xs : List ℕ). get_or xs i 0) e ∙ get_or_push bytes c 0 i long in
-    subst (λ (x : ℕ). Shows x (get_or word i 0)) (sym same) here)
-
-pub prints_none : (text word : List ℕ) → text ≡ codes "-" → length word ≡ 0 → Prints text word
+pub prints : (text word : List ℕ) → text ≡ printed word → Prints text word
 unfolding Placed
-prints_none text word e z = inl (e, nil_from_length word z)
-
-pub prints_all : (text word : List ℕ) → 0 < length word → length text ≡ length word → ((i : ℕ) → i < length word → Shows (get_or text i 0) (get_or word i 0)) → Prints text word
-unfolding Placed
-prints_all text word some long each = inr (some, long, each)
+prints text [] e = inl (e, refl)
+prints text (v ∷ vs) e =
+    let word = v ∷ vs in
+    inr (
+      omega arith,
+      ap length e ∙ length-map word shown,
+      λ i h.
+          let is : get_or text i 0 ≡ shown (get_or word i 0) = ap (λ (xs : List ℕ). get_or xs i 0) e ∙ get_or-map shown word i 0 0 h in
+          subst (λ (c : ℕ). Shows c (get_or word i 0)) (sym is) (shows_shown (get_or word i 0)),
+    )
 
 -- what is printed of symbols spells them
 spells_writable : (text word : List ℕ) → Prints text word → Writable word → Spells text word
@@ -60,3 +56,11 @@ pub reads_back : (text word : List ℕ) → Prints text word → Writable word �
 reads_back text word p all short =
     let o = spells_only text word p all in
     ((o.0, short), λ w r. o.1 w r.0)
+
+-- one more character
+pub shown_more : (word : List ℕ) (i c : ℕ) → i < length word → c ≡ shown (get_or word i 0) → map shown (take i word) ++ encode_utf8 c ≡ map shown (take (i + 1) word)
+shown_more word i c h is =
+    let small : c < 128 = omega (arith, is, shown_ascii (get_or word i 0)) in
+    let here : encode_utf8 c ≡ shown (get_or word i 0) ∷ [] = encode_ascii c small ∙ ap (λ (x : ℕ). x ∷ []) is in
+    let more : map shown (take (i + 1) word) ≡ map shown (take i word) ++ shown (get_or word i 0) ∷ [] = ap (map shown) (take_more word i 0 h) ∙ map-append shown (take i word) (get_or word i 0 ∷ []) in
+    ap (λ (xs : List ℕ). map shown (take i word) ++ xs) here ∙ sym more

@@ -6,7 +6,7 @@ use Rattle.notation.specs.Only.{Only}
 use Rattle.notation.specs.Parts.{Parted}
 
 -- the first space of the text stands at i
-abbrev First : List ℕ → ℕ → Type 0
+abbrev pub First : List ℕ → ℕ → Type 0
 First text i = (i < length text) × (get_or text i 0 ≡ 32) × ((k : ℕ) → k < i → get_or text k 0 ≡ 32 → ⊥)
 
 one_first : (text : List ℕ) (i j : ℕ) → First text i → First text j → i ≡ j
@@ -18,7 +18,7 @@ one_first text i j f g =
     ]
 
 -- the parts are those at the first space
-first_of : (text : List ℕ) (p : List ℕ × List ℕ) → Parted text p → First text (length p.0)
+pub first_of : (text : List ℕ) (p : List ℕ × List ℕ) → Parted text p → First text (length p.0)
 first_of text p h =
     let n = length p.0 in (
       omega (arith, ap length h.1, length-append p.0 (32 ∷ p.1)),
@@ -46,9 +46,3 @@ pub parted_none : (text : List ℕ) (i : ℕ) → length text ≤ i → ((k : �
 parted_none text i end none p h =
     let f = first_of text p h in
     none (length p.0) (omega (arith, f.0)) f.1
-
-pub one_parting : (text : List ℕ) (p q : List ℕ × List ℕ) → Parted text p → Parted text q → q ≡ p
-one_parting text p q h k =
-    let n = length p.0 in
-    let same : length q.0 ≡ n = one_first text (length q.0) n (first_of text q k) (first_of text p h) in
-    parts_of text q n k same ∙ sym (parts_of text p n h refl)

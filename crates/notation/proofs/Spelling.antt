@@ -1,6 +1,6 @@
 -- What a text spells.
-use Rattle.std.proofs.Common.{◌≡◌, ℕ, ◌<◌, ◌≤◌, ◌⊎◌, List, [], length, get_or, take, Some, None, codes, sym, refl, ap, ◌∙◌, subst, inl, inr, arith}
-use Rattle.std.proofs.lemmas.List.{ext_get_or, get_or-take, length-take-le}
+use Rattle.std.proofs.Common.{◌≡◌, ℕ, ◌<◌, ◌≤◌, ◌⊎◌, List, [], length, get_or, Some, None, codes, sym, refl, ap, ◌∙◌, inl, inr, arith}
+use Rattle.std.proofs.lemmas.List.{ext_get_or}
 use Rattle.notation.specs.Only.{Only}
 use Rattle.notation.specs.Symbols.{Writes}
 use Rattle.notation.specs.Words.{Placed, Spells, Readable}
@@ -15,19 +15,6 @@ dash_writes_none text v e w =
 pub dash_spells : (text : List ℕ) → text ≡ codes "-" → Spells text []
 unfolding Placed
 dash_spells text e = inl (e, refl)
-
--- a word that is not empty, from the first cells of an array
-pub cells_spell : (text cells : List ℕ) (n : ℕ) → 0 < n → n ≤ length cells → length text ≡ n → ((i : ℕ) → i < n → Writes (get_or text i 0) (get_or cells i 0)) → Spells text (take n cells)
-unfolding Placed
-cells_spell text cells n some room long each =
-    let len : length (take n cells) ≡ n = length-take-le n cells room in
-    inr (
-      omega (arith, len),
-      long ∙ sym len,
-      λ i h.
-          let lt : i < n = omega (arith, len, h) in
-          subst (λ (v : ℕ). Writes (get_or text i 0) v) (sym (get_or-take n cells i 0 lt)) (each i lt),
-    )
 
 -- a text other than `-` spells a word of its own length, place by place
 pub spells_places : (text word : List ℕ) → (text ≡ codes "-" → ⊥) → Spells text word → (0 < length word) × (length text ≡ length word) × ((i : ℕ) → i < length word → Writes (get_or text i 0) (get_or word i 0))
@@ -57,11 +44,11 @@ reads_dash text e =
     let s = dash_spells text e in
     ((s, omega arith), λ w r. one_word text [] w s r.0)
 
-pub reads_cells : (text cells : List ℕ) → 0 < length text → length text ≤ 80 → length cells ≡ 80 → ((i : ℕ) → i < length text → Writes (get_or text i 0) (get_or cells i 0)) → Only (Readable text) (Some (take (length text) cells))
-reads_cells text cells some fits room each =
-    let n = length text in
-    let s = cells_spell text cells n some (omega arith) refl each in
-    ((s, omega (arith, length-take-le n cells (omega arith))), λ w r. one_word text (take n cells) w s r.0)
+pub reads_all : (text word : List ℕ) → 0 < length text → length text ≤ 80 → length word ≡ length text → ((i : ℕ) → i < length text → Writes (get_or text i 0) (get_or word i 0)) → Only (Readable text) (Some word)
+unfolding Placed
+reads_all text word some fits long each =
+    let s : Spells text word = inr (omega (arith, long), sym long, λ i h. each i (omega (arith, long))) in
+    ((s, omega (arith, long)), λ w r. one_word text word w s r.0)
 
 pub reads_no_length : (text : List ℕ) → (text ≡ codes "-" → ⊥) → (length text ≡ 0) ⊎ (80 < length text) → Only (Readable text) None
 reads_no_length text other out w r =

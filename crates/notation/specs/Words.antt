@@ -1,5 +1,5 @@
 -- A word and the text that spells it.
-use Rattle.std.specs.Prelude.{◌≡◌, ℕ, ◌<◌, ◌≤◌, ◌⊎◌, List, [], length, codes, slice_index}
+use Rattle.std.specs.Prelude.{◌≡◌, ℕ, ◌<◌, ◌≤◌, ◌⊎◌, List, [], ◌∷◌, length, map, codes, slice_index, nat_lt, if◌then◌else◌}
 use Rattle.notation.specs.Symbols.{Writes}
 
 -- the text is `-` for an empty word, and else has one character for each number, as R relates them
@@ -23,6 +23,15 @@ Shows c v = Writes c v ⊎ ((16 ≤ v) × (c ≡ 63))
 -- the text is how the word is printed, whether or not its numbers are symbols
 abbrev pub Prints : List ℕ → List ℕ → Type 0
 Prints = Placed Shows
+
+-- the one character that stands for the number v
+unfoldable pub shown : ℕ → ℕ
+shown v = if nat_lt v 16 then slice_index (codes "0123456789abcdef") v else 63
+
+-- the one text as which the word is printed
+abbrev pub printed : List ℕ → List ℕ
+printed [] = codes "-"
+printed (v ∷ vs) = map shown (v ∷ vs)
 
 -- each number of the word can be written
 abbrev pub Writable : List ℕ → Type 0

@@ -1,20 +1,27 @@
 // A line of the panel, and the command that it says.
 ghost use Rattle.std.specs.Prelude.{◌≤◌, length};
-ghost use Rattle.notation.specs.Commands.{After, Says};
+ghost use Rattle.notation.specs.Commands.{Alone, Says, With};
 ghost use Rattle.notation.specs.Only.{Only};
-ghost use Rattle.notation.specs.Said.{said};
-ghost use Rattle.notation.specs.Views.{letters};
-ghost use Rattle.std.specs.Option.{option_map};
 
 use crate::word::{LONGEST, Word, read_word};
+use numbers::{kind_of, parted};
 
 mod numbers;
 
+// How many symbols a field has.
+#[derive(Clone, Copy, Debug, PartialEq, Eq)]
+pub enum Order {
+    Two,
+    Three,
+    Four,
+    Sixteen,
+}
+
 // What a line says.
-#[derive(Clone, Copy)]
+#[derive(Clone, Debug, PartialEq, Eq, Drop)]
 pub enum Command {
     // `kind Q N`: the field has `order` symbols, and a row has `length` of them.
-    Kind { order: u8, length: usize },
+    Kind { order: Order, length: usize },
     // `row S`: one more row, with the symbols `S`.
     Row(Word),
     // `back`: the last row is taken back.
@@ -29,49 +36,48 @@ pub enum Command {
     Distance,
     // `noise`: the noise figure is asked for.
     Noise,
-    // No command.
-    Unreadable,
 }
 
 // The command that `line` says. A line of more than 80 bytes says none, and nor does one that is no
 // text: each byte of a command is a letter, a digit, a space or `-`.
-pub fn read_command(line: &[u8]) -> Command
-    ensures { Only (Says line.now) (said result) }
+pub fn read_command(line: &[u8]) -> Option<Command>
+    ensures { Only (Says line.now) result }
 {
     if line.len() > LONGEST {
-        return Command::Unreadable;
+        return None;
     }
-    if line == b"back".as_slice() {
-        return Command::Back;
+    match parted(line) {
+        Some((name, text)) => command_with(name, text),
+        None => command_alone(line),
     }
-    if line == b"seal".as_slice() {
-        return Command::Seal;
-    }
-    if line == b"distance".as_slice() {
-        return Command::Distance;
-    }
-    if line == b"noise".as_slice() {
-        return Command::Noise;
-    }
-    if let Some(word) = word_after(b"row ", line) {
-        return Command::Row(word);
-    }
-    if let Some(word) = word_after(b"send ", line) {
-        return Command::Send(word);
-    }
-    if let Some(word) = word_after(b"hear ", line) {
-        return Command::Hear(word);
-    }
-    if let Some((order, length)) = numbers::kind_after(b"kind ", line) {
-        return Command::Kind { order, length };
-    }
-    Command::Unreadable
 }
 
-// The word that stands after `front` on the line.
-fn word_after(front: &[u8], line: &[u8]) -> Option<Word>
-    requires { length line.now ≤ 80 }
-    ensures { Only (After front.now line.now) (option_map letters result) }
+// The command of this name, with `text` after it.
+fn command_with(name: &[u8], text: &[u8]) -> Option<Command>
+    requires { length text.now ≤ 80 }
+    ensures { Only (With name.now text.now) result }
 {
-    read_word(line.strip_prefix(front)?)
+    match name {
+        b"kind" => {
+            let (order, length) = kind_of(text)?;
+            Some(Command::Kind { order, length })
+        }
+        b"row" => read_word(text).map(Command::Row),
+        b"send" => read_word(text).map(Command::Send),
+        b"hear" => read_word(text).map(Command::Hear),
+        _ => None,
+    }
+}
+
+// The command of this name, with nothing after it.
+fn command_alone(name: &[u8]) -> Option<Command>
+    ensures { Only (Alone name.now) result }
+{
+    match name {
+        b"back" => Some(Command::Back),
+        b"seal" => Some(Command::Seal),
+        b"distance" => Some(Command::Distance),
+        b"noise" => Some(Command::Noise),
+        _ => None,
+    }
 }

@@ -1,23 +1,17 @@
 // Words, and the texts that spell them.
 use notation::symbol::{char_of, symbol_of};
-use notation::word::{read_word, spelled};
+use notation::word::{InPrint, Word, read_word, spelled};
 use std::alloc::Global;
 use std::test::Fail;
 
 // Whether the text spells these symbols.
 fn reads(text: &[u8], symbols: &[u8]) -> bool {
-    match read_word(text) {
-        Some(word) => word.symbols() == symbols,
-        None => false,
-    }
+    read_word(text).is_some_and(|word| word.symbols() == symbols)
 }
 
 // Whether the word is printed as this text.
 fn prints(heap: Global, word: &[u8], text: &str) -> bool {
-    match spelled(heap, word) {
-        Ok(printed) => printed.as_str() == text,
-        Err(_) => false,
-    }
+    spelled(heap, word).is_ok_and(|printed| printed.as_str() == text)
 }
 
 #[test]
@@ -53,6 +47,23 @@ fn printing(rt: HostRuntime) {
     assert!(rt; prints(rt.alloc(), &[], "-"));
     assert!(rt; prints(rt.alloc(), &[0, 9, 10, 15], "09af"));
     assert!(rt; prints(rt.alloc(), &[1, 16, 255, 2], "1??2"));
+}
+
+#[test]
+fn printing_in_place(rt: HostRuntime) -> Result<(), Fail> {
+    let text = format!(in rt.alloc(); "{} {}", InPrint(&[0, 15, 16]), InPrint(&[]))?;
+    assert_eq!(rt; text.as_str(), "0f? -");
+    Ok(())
+}
+
+#[test]
+fn lent_words(rt: HostRuntime) -> Result<(), Fail> {
+    assert_eq!(rt;
+        Word::try_from([7; 80].as_slice())?.symbols(),
+        [7; 80].as_slice()
+    );
+    assert!(rt; Word::try_from([7; 81].as_slice()).is_err());
+    Ok(())
 }
 
 #[test]

@@ -1,90 +1,83 @@
 // The replies to commands, and what the calls of a code are replied with.
-ghost use Rattle.std.specs.Prelude.{◌≡◌};
-ghost use Rattle.tally.specs.Tallies.{counts_of};
-ghost use Rattle.code.specs.Views.{generator_of, tally_of};
-ghost use Rattle.panel.specs.Calls.{count_reply, Sent, Heard, Measured, NoiseTold};
+ghost use Rattle.std.specs.Prelude.{◌≡◌, Some, min};
+ghost use Rattle.arrayvec.specs.ArrayVec.{array_vec_len};
+ghost use Rattle.code.specs.Views.{generator_of};
+ghost use Rattle.panel.specs.Calls.{Heard, Sent};
+ghost use Rattle.panel.specs.Printed.{printed_reply};
 
+use arrayvec::ArrayVec;
 use code::Code;
 use field::Field;
+use notation::word::InPrint;
 use reception::HardWord;
 use refusal::Refusal;
+use std::fmt;
 
-#[derive(Clone, Copy)]
+// The most symbols of a code's word.
+const MOST: usize = 24;
+
+#[derive(Drop)]
 pub(crate) enum Reply {
     Done,
+    // So many rows are held, or message symbols.
     Number(usize),
-    // The symbols stand at the front of the array, so many.
-    Word {
-        symbols: [u8; 24],
-        length: usize,
-    },
-    // A message, which stands in the same way, and what its codeword costs.
+    Word(ArrayVec<u8, MOST>),
+    // A message, and what its codeword costs.
     Decoded {
-        symbols: [u8; 24],
-        length: usize,
+        message: ArrayVec<u8, MOST>,
         cost: u32,
     },
-    // The code has just one codeword.
-    NoDistance,
+    // The minimum distance, which a code with just one codeword has none of.
+    Distance(Option<u32>),
     // The noise figure.
     Figure(u64),
-    Refused(u8),
-    Unreadable,
 }
 
-pub(crate) fn counted(rows: Result<usize, Refusal>) -> Reply
-    ensures { result ≡ count_reply rows }
-{
-    match rows {
-        Ok(count) => Reply::Number(count),
-        Err(refusal) => Reply::Refused(refusal.number()),
+// A command is replied to or refused; one that is out of its state is not answered.
+pub(crate) type Answer = Option<Result<Reply, Refusal>>;
+
+impl fmt::Display for Reply {
+    ghost output = { λ reply. Some (printed_reply reply) };
+
+    fn fmt<W: fmt::Write>(&self, f: &mut fmt::Formatter<W>) -> fmt::Result {
+        match self {
+            Reply::Done => f.write_str("ok"),
+            Reply::Number(number) => write!(f, "ok {number}"),
+            Reply::Word(word) => write!(f, "ok {}", InPrint(word)),
+            Reply::Decoded { message, cost } => write!(f, "ok {} {cost}", InPrint(message)),
+            Reply::Distance(Some(distance)) => write!(f, "ok {distance}"),
+            Reply::Distance(None) => f.write_str("ok none"),
+            Reply::Figure(figure) => write!(f, "ok {figure}"),
+        }
     }
 }
 
-pub(crate) fn send<F: Field>(code: &Code<F>, message: &[u8]) -> Reply
+// Room for so many symbols.
+fn room(length: usize) -> ArrayVec<u8, MOST>
+    ensures { array_vec_len result ≡ min length 24 }
+{
+    let mut symbols = ArrayVec::from([0; MOST]);
+    symbols.truncate(length);
+    symbols
+}
+
+pub(crate) fn send<F: Field>(code: &Code<F>, message: &[u8]) -> Result<Reply, Refusal>
     ensures { Sent F.Field.ops (generator_of code.now) message.now result }
 {
-    let mut symbols = [0; 24];
-    let length = code.length().min(24);
-    match code.encode(message, &mut symbols[0..length]) {
-        Ok(()) => Reply::Word { symbols, length },
-        Err(refusal) => Reply::Refused(refusal.number()),
-    }
+    let mut word = room(code.length());
+    code.encode(message, &mut word)?;
+    Ok(Reply::Word(word))
 }
 
 // Decodes a word of hard decisions.
-pub(crate) fn hear<F: Field>(code: &mut Code<F>, word: &[u8], work: &mut [u32]) -> Reply
+pub(crate) fn hear<F: Field>(
+    code: &mut Code<F>,
+    word: &[u8],
+    work: &mut [u32],
+) -> Result<Reply, Refusal>
     ensures { Heard F.Field.ops code.old word.now work.old code.new result work.new }
 {
-    let mut symbols = [0; 24];
-    let length = code.dimension().min(24);
-    let heard = HardWord::new(word);
-    match code.decode::<HardWord>(&heard, work, &mut symbols[0..length]) {
-        Ok(cost) => Reply::Decoded {
-            symbols,
-            length,
-            cost,
-        },
-        Err(refusal) => Reply::Refused(refusal.number()),
-    }
-}
-
-// Finds the minimum distance.
-pub(crate) fn measure<F: Field>(code: &Code<F>, work: &mut [u32]) -> Reply
-    ensures { Measured F.Field.ops (generator_of code.now) work.old result work.new }
-{
-    match code.distance(work) {
-        Ok(Some(distance)) => Reply::Number(distance as usize),
-        Ok(None) => Reply::NoDistance,
-        Err(refusal) => Reply::Refused(refusal.number()),
-    }
-}
-
-pub(crate) fn noise<F: Field>(code: &Code<F>) -> Reply
-    ensures { NoiseTold (counts_of (tally_of code.now)) result }
-{
-    match code.noise_figure() {
-        Ok(figure) => Reply::Figure(figure),
-        Err(refusal) => Reply::Refused(refusal.number()),
-    }
+    let mut message = room(code.dimension());
+    let cost = code.decode::<HardWord>(&HardWord::new(word), work, &mut message)?;
+    Ok(Reply::Decoded { message, cost })
 }

@@ -1,10 +1,10 @@
 // What the panel holds, and how it answers a command.
-ghost use Rattle.panel.specs.Replies.{AtStage, Opened, Chosen, Answered};
+ghost use Rattle.panel.specs.Replies.{AtCode, AtDraft, AtStage, Answered, Chosen, Kept, LineAnswered, Opened};
 
-use crate::replies::{Reply, counted, hear, measure, noise, send};
+use crate::replies::{Answer, Reply, hear, send};
 use code::{Code, Draft};
 use field::{Field, Four, Sixteen, Three, Two};
-use notation::command::Command;
+use notation::command::{Command, Order, read_command};
 use refusal::Refusal;
 
 // A draft, and once it is sealed its code.
@@ -14,7 +14,8 @@ pub(crate) enum Stage<F> {
     Sealed(Code<F>),
 }
 
-// Nothing, until the field and the length are known.
+// Nothing, until the field and the length are known. That is a state like the other four: as an
+// `Option` around them it would only nest each `match`.
 #[derive(Drop)]
 pub(crate) enum Panel {
     Fresh,
@@ -24,38 +25,64 @@ pub(crate) enum Panel {
     Sixteen(Stage<Sixteen>),
 }
 
-// Answers a command at a draft or a code, with work memory. One that is not for it is as unreadable.
-fn at_stage<F: Field>(stage: Stage<F>, command: &Command, work: &mut [u32]) -> (Stage<F>, Reply)
+fn at_draft<F: Field>(mut draft: Draft<F>, command: &Command) -> (Stage<F>, Answer)
+    ensures { AtDraft F.Field.ops draft command.now result.0 result.1 }
+{
+    match command {
+        Command::Row(word) => {
+            let rows = draft.push_row(word.symbols());
+            (Stage::Open(draft), Some(rows.map(Reply::Number)))
+        }
+        Command::Back => {
+            let rows = draft.pop_row();
+            (Stage::Open(draft), Some(rows.map(Reply::Number)))
+        }
+        Command::Seal => {
+            let code = draft.seal();
+            let dimension = code.dimension();
+            (Stage::Sealed(code), Some(Ok(Reply::Number(dimension))))
+        }
+        _ => (Stage::Open(draft), None),
+    }
+}
+
+fn at_code<F: Field>(code: &mut Code<F>, command: &Command, work: &mut [u32]) -> Answer
+    ensures { AtCode F.Field.ops code.old command.now work.old code.new result work.new }
+{
+    match command {
+        Command::Send(word) => Some(send(code, word.symbols())),
+        Command::Hear(word) => Some(hear(code, word.symbols(), work)),
+        Command::Distance => Some(code.distance(work).map(Reply::Distance)),
+        Command::Noise => Some(code.noise_figure().map(Reply::Figure)),
+        _ => None,
+    }
+}
+
+// Answers a command at a draft or a code, with work memory. One that is not for it changes nothing.
+fn at_stage<F: Field>(stage: Stage<F>, command: &Command, work: &mut [u32]) -> (Stage<F>, Answer)
     ensures { AtStage F.Field.ops stage command.now work.old result.0 result.1 work.new }
 {
     match stage {
-        Stage::Open(mut draft) => match command {
-            Command::Row(word) => {
-                let reply = counted(draft.push_row(word.symbols()));
-                (Stage::Open(draft), reply)
-            }
-            Command::Back => {
-                let reply = counted(draft.pop_row());
-                (Stage::Open(draft), reply)
-            }
-            Command::Seal => {
-                let code = draft.seal();
-                let reply = Reply::Number(code.dimension());
-                (Stage::Sealed(code), reply)
-            }
-            _ => (Stage::Open(draft), Reply::Unreadable),
-        },
+        Stage::Open(draft) => at_draft(draft, command),
         Stage::Sealed(mut code) => {
-            let reply = match command {
-                Command::Send(word) => send(&code, word.symbols()),
-                Command::Hear(word) => hear(&mut code, word.symbols(), work),
-                Command::Distance => measure(&code, work),
-                Command::Noise => noise(&code),
-                _ => Reply::Unreadable,
-            };
-            (Stage::Sealed(code), reply)
+            let answer = at_code(&mut code, command, work);
+            (Stage::Sealed(code), answer)
         }
     }
+}
+
+// The same at the stage of the panel's field, where `hold` makes a panel of what is left.
+fn answer_at<F: Field, H: FnOnce(Stage<F>) -> Panel>(
+    hold: H,
+    stage: Stage<F>,
+    command: &Command,
+    work: &mut [u32],
+) -> (Panel, Answer)
+    requires { H.IsAlwaysCallable hold }
+    ensures { Kept F.Field.ops (H.post hold) stage command.now work.old result.0 result.1 work.new }
+{
+    let (stage, answer) = at_stage(stage, command, work);
+    (hold(stage), answer)
 }
 
 // A draft of the length wanted, or why there is none.
@@ -63,60 +90,48 @@ fn open<F: Field>(length: usize) -> Result<Stage<F>, Refusal>
     ensures { Opened F.Field.ops length result }
 {
     let mut draft = Draft::new();
-    match draft.set_length(length) {
-        Ok(()) => Ok(Stage::Open(draft)),
-        Err(refusal) => Err(refusal),
-    }
+    draft.set_length(length)?;
+    Ok(Stage::Open(draft))
 }
 
-fn choose(order: u8, length: usize) -> (Panel, Reply)
-    ensures { Chosen order length result.0 result.1 }
+// A panel that holds such a draft, over the field of this order.
+#[tactic(auto, using(crate::proofs::Opening::opens))]
+fn choose(order: Order, length: usize) -> Result<Panel, Refusal>
+    ensures { Chosen order length result }
 {
     match order {
-        2 => match open::<Two>(length) {
-            Ok(stage) => (Panel::Two(stage), Reply::Done),
-            Err(refusal) => (Panel::Fresh, Reply::Refused(refusal.number())),
-        },
-        3 => match open::<Three>(length) {
-            Ok(stage) => (Panel::Three(stage), Reply::Done),
-            Err(refusal) => (Panel::Fresh, Reply::Refused(refusal.number())),
-        },
-        4 => match open::<Four>(length) {
-            Ok(stage) => (Panel::Four(stage), Reply::Done),
-            Err(refusal) => (Panel::Fresh, Reply::Refused(refusal.number())),
-        },
-        16 => match open::<Sixteen>(length) {
-            Ok(stage) => (Panel::Sixteen(stage), Reply::Done),
-            Err(refusal) => (Panel::Fresh, Reply::Refused(refusal.number())),
-        },
-        _ => (Panel::Fresh, Reply::Unreadable),
+        Order::Two => open(length).map(Panel::Two),
+        Order::Three => open(length).map(Panel::Three),
+        Order::Four => open(length).map(Panel::Four),
+        Order::Sixteen => open(length).map(Panel::Sixteen),
     }
 }
 
 // Answers a command, with work memory.
-pub(crate) fn answer(panel: Panel, command: &Command, work: &mut [u32]) -> (Panel, Reply)
+pub(crate) fn answer(panel: Panel, command: &Command, work: &mut [u32]) -> (Panel, Answer)
     ensures { Answered panel command.now work.old result.0 result.1 work.new }
 {
     match panel {
         Panel::Fresh => match command {
-            Command::Kind { order, length } => choose(*order, *length),
-            _ => (Panel::Fresh, Reply::Unreadable),
+            Command::Kind { order, length } => match choose(*order, *length) {
+                Ok(panel) => (panel, Some(Ok(Reply::Done))),
+                Err(refusal) => (Panel::Fresh, Some(Err(refusal))),
+            },
+            _ => (Panel::Fresh, None),
         },
-        Panel::Two(stage) => {
-            let (stage, reply) = at_stage(stage, command, work);
-            (Panel::Two(stage), reply)
-        }
-        Panel::Three(stage) => {
-            let (stage, reply) = at_stage(stage, command, work);
-            (Panel::Three(stage), reply)
-        }
-        Panel::Four(stage) => {
-            let (stage, reply) = at_stage(stage, command, work);
-            (Panel::Four(stage), reply)
-        }
-        Panel::Sixteen(stage) => {
-            let (stage, reply) = at_stage(stage, command, work);
-            (Panel::Sixteen(stage), reply)
-        }
+        Panel::Two(stage) => answer_at(Panel::Two, stage, command, work),
+        Panel::Three(stage) => answer_at(Panel::Three, stage, command, work),
+        Panel::Four(stage) => answer_at(Panel::Four, stage, command, work),
+        Panel::Sixteen(stage) => answer_at(Panel::Sixteen, stage, command, work),
+    }
+}
+
+// Answers the command that a line says. A line that says none changes nothing.
+pub(crate) fn answer_line(panel: Panel, line: &[u8], work: &mut [u32]) -> (Panel, Answer)
+    ensures { LineAnswered panel line.now work.old result.0 result.1 work.new }
+{
+    match read_command(line) {
+        Some(command) => answer(panel, &command, work),
+        None => (panel, None),
     }
 }

@@ -1,38 +1,37 @@
 // The two numbers of a kind: the order of a field and the length of a row.
-ghost use Rattle.notation.specs.Commands.{KindAfter, Number, Order};
+ghost use Rattle.notation.specs.Commands.{KindOf, Number, OrderNamed};
 ghost use Rattle.notation.specs.Only.{Only};
 ghost use Rattle.notation.specs.Parts.{Parted, texts};
 ghost use Rattle.std.specs.Option.{option_map};
 
-// The order and the length that stand after `front` on the line, one space apart.
-pub(super) fn kind_after(front: &[u8], line: &[u8]) -> Option<(u8, usize)>
-    ensures { Only (KindAfter front.now line.now) result }
+use super::Order;
+use std::str;
+
+// The order and the length that the text gives, one space apart.
+pub(super) fn kind_of(text: &[u8]) -> Option<(Order, usize)>
+    ensures { Only (KindOf text.now) result }
 {
-    let (order, length) = parted(line.strip_prefix(front)?)?;
-    Some((order_of(order)?, number_of(length)?))
+    let (order, length) = parted(text)?;
+    order_of(order).zip(number_of(length))
 }
 
 // What stands before the first space of the text, and what stands after it.
-fn parted(text: &[u8]) -> Option<(&[u8], &[u8])>
+pub(super) fn parted(text: &[u8]) -> Option<(&[u8], &[u8])>
     ensures { Only (Parted text.now) (option_map texts result) }
 {
-    for i in 0..text.len() {
-        if text[i] == b' ' {
-            return Some((&text[0..i], &text[i + 1..]));
-        }
-    }
-    None
+    let space = text.iter().position(|byte| *byte == b' ')?;
+    Some((&text[..space], &text[space + 1..]))
 }
 
 // The order of a field, as it is written.
-fn order_of(text: &[u8]) -> Option<u8>
-    ensures { Only (Order text.now) result }
+fn order_of(text: &[u8]) -> Option<Order>
+    ensures { Only (OrderNamed text.now) result }
 {
     match text {
-        b"2" => Some(2),
-        b"3" => Some(3),
-        b"4" => Some(4),
-        b"16" => Some(16),
+        b"2" => Some(Order::Two),
+        b"3" => Some(Order::Three),
+        b"4" => Some(Order::Four),
+        b"16" => Some(Order::Sixteen),
         _ => None,
     }
 }
@@ -41,15 +40,9 @@ fn order_of(text: &[u8]) -> Option<u8>
 fn number_of(text: &[u8]) -> Option<usize>
     ensures { Only (Number text.now) result }
 {
-    if text.is_empty() || text.len() > 3 {
+    // A sign would be read too, so that digits are asked for first.
+    if text.len() > 3 || !text.iter().all(u8::is_ascii_digit) {
         return None;
     }
-    let mut value = 0;
-    for digit in text {
-        match *digit {
-            b'0'..=b'9' => value = value * 10 + usize::from(*digit - b'0'),
-            _ => return None,
-        }
-    }
-    Some(value)
+    str::from_utf8(text).ok()?.parse().ok()
 }

@@ -1,42 +1,24 @@
-use Rattle.std.proofs.Common.{◌≡◌, ℕ, ◌+◌, List, [], ◌∷◌, ◌++◌, length, get_or, string_bytes, codes, sym, ap, ◌∙◌, subst, arith}
-use lib.Utf8.{encode}
-use Rattle.std.proofs.lemmas.List.{length_push}
-use Rattle.std.proofs.lemmas.Bool.{eqb-true, eqb-false}
-use Rattle.notation.specs.Words.{Shows}
-use Rattle.notation.proofs.Printing.{pushed, shows_or_mark, shows_ascii, shows_more, prints_none, prints_all, spells_only, reads_back}
+use Rattle.std.proofs.Common.{◌≡◌, Some, string_bytes}
+use Rattle.std.proofs.lemmas.Result.{IfOk-weaker}
+use Rattle.notation.specs.Only.{Only}
+use Rattle.notation.specs.Words.{printed, Prints, Readable, Spells}
+use Rattle.notation.proofs.Printing.{prints, spells_only, reads_back}
 use Rattle.notation.proofs.word.printing.spelled.Goals as goal
 
-pub returns-then-is_empty : goal.returns-then-is_empty
-returns-then-is_empty c =
+pub returns-clause-prints : goal.returns-clause-prints
+returns-clause-prints c =
     let word = c.args.word.now in
-    let text = string_bytes c.push.new.self in
-    let push = c.in_ok-push.ensures in
-    let before = string_bytes c.new-text.result in
-    let one : text ≡ before ++ 45 ∷ [] = pushed text before (encode 45) 45 push.bytes (push.ascii (omega arith)) in
-    let is : text ≡ codes "-" = one ∙ ap (λ (xs : List ℕ). xs ++ 45 ∷ []) c.new-text.ensures.bytes in
-    let none : length word ≡ 0 = eqb-true (length word) 0 (sym c.is_empty.ensures ∙ c.if-is_empty.true) in
-    let p = prints_none text word is none in
-    record { prints = p; spells = spells_only text word p; reads_back = reads_back text word p }
+    IfOk-weaker c.to_string.result (λ s. string_bytes s ≡ printed word) (λ s. Prints (string_bytes s) word)
+    (λ s e. prints (string_bytes s) word e) c.to_string.ensures.ok
 
-pub loop-number-preserved : goal.loop-number-preserved
-loop-number-preserved c =
+pub returns-clause-spells : goal.returns-clause-spells
+returns-clause-spells c all =
     let word = c.args.word.now in
-    let i = c.loop-number.number-index in
-    let before = string_bytes c.loop-number.text in
-    let after = string_bytes c.push-in-loop-number.new.self in
-    let push = c.in_ok-push-2.ensures in
-    let x = c.unwrap_or.result in
-    let here : Shows x (get_or word i 0) =
-    subst (λ (y : ℕ). Shows y (get_or word i 0)) (sym c.unwrap_or.ensures) (shows_or_mark (get_or word i 0) c.char_of.result c.char_of.ensures) in
-    let is : after ≡ before ++ x ∷ [] = pushed after before (encode x) x push.bytes (push.ascii (shows_ascii x (get_or word i 0) here)) in (
-      ap length is ∙ length_push before x ∙ ap (λ (n : ℕ). n + 1) c.loop-number.invariant.0,
-      shows_more before after word i x is c.loop-number.invariant.0 c.loop-number.invariant.1 here,
-    )
+    IfOk-weaker c.to_string.result (λ s. string_bytes s ≡ printed word) (λ s. Only (Spells (string_bytes s)) (Some word))
+    (λ s e. spells_only (string_bytes s) word (prints (string_bytes s) word e) all) c.to_string.ensures.ok
 
-pub returns : goal.returns
-returns c =
+pub returns-clause-reads_back : goal.returns-clause-reads_back
+returns-clause-reads_back c all short =
     let word = c.args.word.now in
-    let text = string_bytes c.loop-number.text in
-    let some : (length word ≡ 0 → ⊥) = eqb-false (length word) 0 (sym c.is_empty.ensures ∙ c.if-is_empty.false) in
-    let p = prints_all text word (omega arith) (omega arith) (λ i h. c.loop-number.invariant.1 i (omega arith)) in
-    record { prints = p; spells = spells_only text word p; reads_back = reads_back text word p }
+    IfOk-weaker c.to_string.result (λ s. string_bytes s ≡ printed word) (λ s. Only (Readable (string_bytes s)) (Some word))
+    (λ s e. reads_back (string_bytes s) word (prints (string_bytes s) word e) all short) c.to_string.ensures.ok
