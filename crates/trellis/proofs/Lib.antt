@@ -1,6 +1,12 @@
 pub mod Powers
+pub mod Shaping
 pub mod Stepping
-pub mod Parting
-pub mod Rowing
-pub mod Preparing
+pub mod Splicing
+pub mod Columning
+pub mod Choosing
+pub mod Halving
+pub mod Filling
+pub mod Tabling
 pub mod Following
+pub mod Rooming
+pub mod Lightening

@@ -1,15 +1,13 @@
 -- Steps of states: sums are symbols, and tables grow by one digit.
-use Rattle.std.proofs.Common.{◌≡◌, ℕ, zero, suc, ◌+◌, ◌*◌, ◌/◌, ◌%◌, ◌^◌, ◌<◌, ◌≤◌, List, [], length, get_or, set, sym, refl, ap, ◌∙◌, ap₂, inl, inr, le_trans, mul-le-mul_right, mul_assoc, add-mul, mul-le-mul_left, pow-suc, zero-add, mul-one, mul_right_comm, arith}
+use Rattle.std.proofs.Common.{◌≡◌, ℕ, zero, suc, ◌+◌, ◌*◌, ◌/◌, ◌%◌, ◌^◌, ◌<◌, ◌≤◌, List, get_or, sym, refl, ap, ◌∙◌, ap₂, inl, inr, le_trans, mul-le-mul_right, mul_assoc, add-mul, mul-le-mul_left, pow-suc, mul-one, mul_right_comm, arith}
 use Rattle.std.proofs.lemmas.Nat.{div-add-mod', div_below, mod_below}
-use Rattle.std.proofs.lemmas.List.{get_or-set_same, get_or-set_other}
-use Rattle.std.proofs.lemmas.Bool.{cases_eq, cases_lt}
+use Rattle.std.proofs.lemmas.Bool.{cases_lt}
 use Rattle.field.specs.Field.{Ops, Laws}
-use Rattle.algebra.specs.Words.{cells}
 use Rattle.algebra.proofs.Symbols.{zero_symbol}
 use Rattle.generator.specs.declared.Generator.{Generator}
 use Rattle.cosets.specs.States.{moved, checks, column_at, next}
 use Rattle.cosets.proofs.States.{moved_below}
-use Rattle.trellis.specs.Steps.{column_from, Widened, Tabulated}
+use Rattle.trellis.specs.Steps.{Widened}
 use Rattle.trellis.proofs.Powers.{power_more}
 
 -- a state moves by the columns' symbols at its own digits
@@ -19,14 +17,10 @@ moved_same f column other (suc c) s x e =
     let q = f.order in
     ap₂ (λ a b. a * q + f.sum (s % q) (f.product x b)) (moved_same f column other c (s / q) x (λ i h. e i (omega arith))) (e c (omega arith))
 
--- the columns of the check rows from the first on
-pub column_first : (rows : List (List ℕ)) (p i : ℕ) → column_from rows 0 p i ≡ cells rows i p
-column_first rows p i = ap (λ j. cells rows j p) (zero-add i)
-
--- rows that have a generator's check symbols at a place move a state as the generator does
-pub moved_next : (f : Ops) (g : Generator) (rows : List (List ℕ)) (p s x : ℕ) → ((i : ℕ) → i < checks g → cells rows i p ≡ column_at f g p i) → moved f (column_from rows 0 p) (checks g) s x ≡ next f g p s x
+-- a column that has a generator's check symbols at a place moves a state as the generator does
+pub moved_next : (f : Ops) (g : Generator) (column : ℕ → ℕ) (p s x : ℕ) → ((i : ℕ) → i < checks g → column i ≡ column_at f g p i) → moved f column (checks g) s x ≡ next f g p s x
 unfolding next
-moved_next f g rows p s x e = moved_same f (column_from rows 0 p) (column_at f g p) (checks g) s x (λ i h. column_first rows p i ∙ e i h)
+moved_next f g column p s x e = moved_same f column (column_at f g p) (checks g) s x e
 
 -- every sum is a symbol
 pub sum_closed : (f : Ops) → Laws f → (a b : ℕ) → f.sum a b < f.order
@@ -52,7 +46,8 @@ module _ (f : Ops) (l : Laws f) where
       omega (arith, add-mul (m * q) q unit, mul_right_comm m unit q)
 
   -- a table of the states of d digits, widened, is that of the states of one digit more
-  pub tabulated_more : (column : ℕ → ℕ) (d x unit : ℕ) (was is : List ℕ) → Tabulated f column d x unit was → Widened f (f.order ^ d) (f.product x (column d)) unit was is → Tabulated f column (suc d) x unit is
+  pub tabulated_more : (column : ℕ → ℕ) (d x unit : ℕ) (was is : List ℕ) → ((s : ℕ) → s < f.order ^ d → get_or was s 0 ≡ moved f column d s x * unit)
+      → Widened f (f.order ^ d) (f.product x (column d)) unit was is → (s : ℕ) → s < f.order ^ suc d → get_or is s 0 ≡ moved f column (suc d) s x * unit
   tabulated_more column d x unit was is old wide s h =
       let q = f.order in
       let u : ℕ = s / q in
@@ -75,11 +70,3 @@ moved_last f column j rest x to unit all e =
     let a : ℕ = f.sum (rest % q) (f.product x (column j)) in
     let whole : (m * q + a) * unit ≡ m * (unit * q) + a * unit = add-mul (m * q) a unit ∙ ap (λ b. b + a * unit) (mul_right_comm m q unit ∙ mul_assoc m unit q) in
     omega arith
-
--- what holds of each row below x, and of the one that is put at x, holds of each below x + 1
-pub rows_more : (P : ℕ → List ℕ → Type 0) (rows : List (List ℕ)) (x : ℕ) (new : List ℕ) → x < length rows → ((y : ℕ) → y < x → P y (get_or rows y [])) → P x new
-    → (y : ℕ) → y < x + 1 → P y (get_or (set rows x new) y [])
-rows_more P rows x new h all here y b = elim (cases_eq y x) [
-  | inl e ↦ rw (e, get_or-set_same rows x new [] h) here
-  | inr n ↦ rw (get_or-set_other rows x y new [] n) (all y (omega arith))
-]

@@ -1,9 +1,9 @@
 pub mod Shapes
+pub mod Leasts
+pub mod Rows
+pub mod Branches
 pub mod Steps
-pub mod CheckRows
-pub mod Reaching
-pub mod Filling
-pub mod Ends
+pub mod Columns
 pub mod Clearing
 pub mod Rooms
 pub mod Told

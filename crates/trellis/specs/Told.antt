@@ -10,7 +10,7 @@ use Rattle.cosets.specs.States.{cosets}
 use Rattle.reception.specs.Costs.{Costs}
 use Rattle.cheapest.specs.Cheapest.{Cheapest, Sole}
 use Rattle.cheapest.specs.Lightest.{Lightest}
-use Rattle.trellis.specs.declared.coset.Least.{Least}
+use Rattle.trellis.specs.declared.cost.Least.{Least}
 use Rattle.trellis.specs.Rooms.{with_room}
 
 -- finding the cheapest word of the coset t, with so many words of work memory and a buffer of so many places

@@ -1,182 +1,102 @@
 // The table of the least costs: for each place and state the least cost of the symbols from there on,
-// and whether one word or more have it. It is filled from the last place back.
-ghost use Rattle.std.specs.Prelude.{◌≡◌, ℕ, ◌+◌, ◌*◌, ◌<◌, ◌≤◌, length, slice_index};
-ghost use Rattle.least.specs.Least.{better};
-ghost use Rattle.least.specs.Tables.{Table};
-ghost use Rattle.cosets.specs.States.{cosets};
+// and whether one word or more have it. Its rows stand one after the other, and are filled from the
+// last place back.
+ghost use Rattle.std.specs.Prelude.{◌≡◌, ◌+◌, ◌-◌, ◌*◌, ◌<◌, ◌≤◌, length};
 ghost use Rattle.generator.specs.Parts.{size};
-ghost use Rattle.trellis.specs.Ends.{Ended};
-ghost use Rattle.trellis.specs.Shapes.{Shaped};
+ghost use Rattle.least.specs.Tables.{Table};
 ghost use Rattle.cheapest.specs.Trellises.{trellis_of};
-ghost use Rattle.trellis.specs.CheckRows.{CheckRows};
-ghost use Rattle.trellis.specs.Filling.{place, Ready, Part, Parts};
-ghost use Rattle.trellis.specs.Reaching.{lead, least_on, Reachable};
+ghost use Rattle.trellis.specs.Branches.{Branched};
+ghost use Rattle.trellis.specs.Rows.{Filled, Holds};
 
-use crate::shape::Shape;
-use crate::steps::prepare;
+use crate::branch::Branch;
+use crate::code_trellis::Trellis;
+use crate::row::Row;
+use crate::section::Section;
 use field::Field;
-use generator::Generator;
 use reception::Reception;
 
-// The cheaper of two costs, each with its ways: none, one, or two for more.
-pub(crate) fn choose(cost: u32, ways: u32, other: u32, more: u32) -> (u32, u32)
-    ensures { result ≡ better cost ways other more }
-{
-    if more == 0 {
-        (cost, ways)
-    } else if ways == 0 || other < cost {
-        (other, more)
-    } else if cost < other {
-        (cost, ways)
-    } else {
-        (cost, 2)
+// The words of a filled table.
+#[derive(Drop)]
+pub(crate) struct LeastCosts<'a, F: Field, R: Reception> {
+    pub(crate) trellis: &'a Trellis<'a, F, R>,
+    pub(crate) words: &'a [u32],
+    ghost room: { (size trellis.now.generator.now + 1) * (trellis.now.shape.highs * trellis.now.shape.lows + trellis.now.shape.highs * trellis.now.shape.lows) ≤ length words.now },
+    ghost filled: { Table (trellis_of F.Field.ops trellis.now.generator.now (R.Reception.costs trellis.now.reception.now) trellis.now.coset) (trellis.now.shape.highs * trellis.now.shape.lows) (size trellis.now.generator.now) 0 words.now },
+}
+
+impl<'a, F: Field, R: Reception> LeastCosts<'a, F, R> {
+    // The row of a place.
+    pub(crate) fn row(&self, place: usize) -> Row<'a>
+        requires { place ≤ size self.now.trellis.now.generator.now }
+        ensures states { length result.costs.now ≡ self.now.trellis.now.shape.highs * self.now.trellis.now.shape.lows }
+        ensures holds { Holds (trellis_of F.Field.ops self.now.trellis.now.generator.now (R.Reception.costs self.now.trellis.now.reception.now) self.now.trellis.now.coset) (size self.now.trellis.now.generator.now - place) place result.costs.now result.ways.now }
+    {
+        let words = self.words;
+        let states = self.trellis.shape.states();
+        let row = states + states;
+        Row::new(&words[place * row..place * row + row], states)
     }
 }
 
-// The least cost from the state of the upper half u and the lower half v, over all symbols, by the
-// row of the place after it: its costs from the word `costs` on, its ways from the word `ways` on.
-fn reach<F: Field>(
-    states: usize,
-    prices: &[u32; 16],
-    high: &[[u16; 256]; 16],
-    low: &[[u16; 64]; 16],
-    u: usize,
-    v: usize,
-    words: &[u32],
-    costs: usize,
-    ways: usize,
-) -> (u32, u32)
-    requires few { F.Field.ops.order ≤ 16 }
-    requires upper { u < 256 }
-    requires lower { v < 64 }
-    requires known { Reachable F.Field.ops.order states prices.now words.now costs ways (lead high.now low.now u v) }
-    ensures { result ≡ least_on prices.now words.now costs ways (lead high.now low.now u v) F.Field.ops.order }
-{
-    let mut least = 0;
-    let mut count = 0;
-    for x in 0..F::order() as usize {
-        let to = high[x][u] as usize + low[x][v] as usize;
-        let more = words[ways + to];
-        if more != 0 {
-            let cost = prices[x] + words[costs + to];
-            if count == 0 || cost < least {
-                least = cost;
-                count = more;
-            } else if cost == least {
-                count = 2;
-            }
+impl<'a, F: Field, R: Reception> Trellis<'a, F, R> {
+    // Fills the row past the last place: the empty word costs nothing, and leads to the coset alone.
+    fn fill_last(&self, row: &mut [u32])
+        requires { length row.old ≡ self.now.shape.highs * self.now.shape.lows + self.now.shape.highs * self.now.shape.lows }
+        ensures { Filled (trellis_of F.Field.ops self.now.generator.now (R.Reception.costs self.now.reception.now) self.now.coset) 0 (size self.now.generator.now) (self.now.shape.highs * self.now.shape.lows) row.new }
+    {
+        row.fill(0);
+        row[self.shape.states() + self.coset] = 1;
+    }
+
+    // Fills the row of a place, by the row of the place after it.
+    fn fill_row(&self, place: usize, branches: &[Branch], after: &[u32], row: &mut [u32])
+        requires inside { place < size self.now.generator.now }
+        requires symbols { length branches.now ≡ F.Field.ops.order }
+        requires branched { Branched (trellis_of F.Field.ops self.now.generator.now (R.Reception.costs self.now.reception.now) self.now.coset) place self.now.shape.highs self.now.shape.lows branches.now }
+        requires next { length after.now ≡ self.now.shape.highs * self.now.shape.lows + self.now.shape.highs * self.now.shape.lows }
+        requires long { length row.old ≡ self.now.shape.highs * self.now.shape.lows + self.now.shape.highs * self.now.shape.lows }
+        requires done { Filled (trellis_of F.Field.ops self.now.generator.now (R.Reception.costs self.now.reception.now) self.now.coset) (size self.now.generator.now - (place + 1)) (place + 1) (self.now.shape.highs * self.now.shape.lows) after.now }
+        ensures { Filled (trellis_of F.Field.ops self.now.generator.now (R.Reception.costs self.now.reception.now) self.now.coset) (size self.now.generator.now - place) place (self.now.shape.highs * self.now.shape.lows) row.new }
+    {
+        let section = Section {
+            trellis: &*self,
+            place,
+            branches,
+            after: Row::new(after, self.shape.states()),
+        };
+        section.fill(row);
+    }
+
+    // Fills the row of a place in a table that is filled from the place after it on.
+    fn fill_place(&self, place: usize, branches: &mut [Branch], words: &mut [u32])
+        requires inside { place < size self.now.generator.now }
+        requires symbols { length branches.old ≡ F.Field.ops.order }
+        requires room { (size self.now.generator.now + 1) * (self.now.shape.highs * self.now.shape.lows + self.now.shape.highs * self.now.shape.lows) ≤ length words.old }
+        requires done { Table (trellis_of F.Field.ops self.now.generator.now (R.Reception.costs self.now.reception.now) self.now.coset) (self.now.shape.highs * self.now.shape.lows) (size self.now.generator.now) (place + 1) words.old }
+        ensures { Table (trellis_of F.Field.ops self.now.generator.now (R.Reception.costs self.now.reception.now) self.now.coset) (self.now.shape.highs * self.now.shape.lows) (size self.now.generator.now) place words.new }
+    {
+        self.branch(place, branches);
+        let row = 2 * self.shape.states();
+        let (before, after) = words.split_at_mut(place * row + row);
+        self.fill_row(place, branches, &after[..row], &mut before[place * row..]);
+    }
+
+    // Fills the whole table.
+    pub(crate) fn fill(&self, words: &mut [u32])
+        requires { (size self.now.generator.now + 1) * (self.now.shape.highs * self.now.shape.lows + self.now.shape.highs * self.now.shape.lows) ≤ length words.old }
+        ensures { Table (trellis_of F.Field.ops self.now.generator.now (R.Reception.costs self.now.reception.now) self.now.coset) (self.now.shape.highs * self.now.shape.lows) (size self.now.generator.now) 0 words.new }
+    {
+        let n = self.generator.length();
+        let row = 2 * self.shape.states();
+        self.fill_last(&mut words[n * row..n * row + row]);
+        let mut branches = [Branch {
+            price: 0,
+            high: [0; 256],
+            low: [0; 64],
+        }; 16];
+        let symbols = &mut branches[..self.shape.order as usize];
+        for place in (0..n).rev() {
+            self.fill_place(place, symbols, words);
         }
-    }
-    (least, count)
-}
-
-// Fills the states of the upper half u in the row that begins at the word `costs`.
-fn fill_part<F: Field>(
-    highs: usize,
-    lows: usize,
-    prices: &[u32; 16],
-    high: &[[u16; 256]; 16],
-    low: &[[u16; 64]; 16],
-    u: usize,
-    costs: usize,
-    words: &mut [u32],
-)
-    requires ready { Ready (place F.Field.ops.order lows (highs * lows) costs prices.now high.now low.now) highs words.old }
-    requires upper { u < highs }
-    ensures { Part (place F.Field.ops.order lows (highs * lows) costs prices.now high.now low.now) u lows words.old words.new }
-{
-    let states = highs * lows;
-    let ways = costs + states;
-    let after = ways + states;
-    let first = u * lows;
-    for v in 0..lows {
-        let (cost, count) = reach::<F>(
-            states,
-            prices,
-            high,
-            low,
-            u,
-            v,
-            words,
-            after,
-            after + states,
-        );
-        words[costs + (first + v)] = cost;
-        words[ways + (first + v)] = count;
-    }
-}
-
-// Fills the row that begins at the word `costs` by the row after it.
-fn fill_row<F: Field>(
-    highs: usize,
-    lows: usize,
-    prices: &[u32; 16],
-    high: &[[u16; 256]; 16],
-    low: &[[u16; 64]; 16],
-    costs: usize,
-    words: &mut [u32],
-)
-    requires { Ready (place F.Field.ops.order lows (highs * lows) costs prices.now high.now low.now) highs words.old }
-    ensures { Parts (place F.Field.ops.order lows (highs * lows) costs prices.now high.now low.now) highs words.old words.new }
-{
-    for u in 0..highs {
-        fill_part::<F>(highs, lows, prices, high, low, u, costs, words);
-    }
-}
-
-// Fills the row past the last place, which begins at the word `costs`: only the target is there.
-fn last_row(states: usize, target: usize, costs: usize, words: &mut [u32])
-    requires { costs + states + states ≤ length words.old }
-    ensures { Ended states target costs words.new }
-{
-    for state in 0..states {
-        words[costs + state] = 0;
-        words[costs + states + state] = if state == target { 1 } else { 0 };
-    }
-}
-
-// What each symbol costs at a place.
-fn prices_at<R: Reception>(reception: &R, order: u8, place: usize) -> [u32; 16]
-    requires { order ≤ 16 }
-    ensures { (x : ℕ) → x < order → slice_index result x ≡ (R.Reception.costs reception.now).cost place x }
-{
-    let mut prices = [0; 16];
-    for x in 0..order {
-        prices[x as usize] = reception.cost(place, x) as u32;
-    }
-    prices
-}
-
-// Fills the whole table, for the words that lead to the target.
-pub(crate) fn fill_table<F: Field, R: Reception>(
-    generator: &Generator,
-    shape: Shape,
-    checks: &[[u8; 24]; 24],
-    reception: &R,
-    target: usize,
-    words: &mut [u32],
-)
-    requires shaped { Shaped F.Field.ops generator.now shape }
-    requires rows { CheckRows F.Field.ops generator.now checks.now }
-    requires room { (size generator.now + 1) * (cosets F.Field.ops generator.now + cosets F.Field.ops generator.now) ≤ length words.old }
-    ensures { Table (trellis_of F.Field.ops generator.now (R.Reception.costs reception.now) target) (cosets F.Field.ops generator.now) (size generator.now) 0 words.new }
-{
-    let states = shape.highs * shape.lows;
-    let row = states + states;
-    let mut high = [[0; 256]; 16];
-    let mut low = [[0; 64]; 16];
-    last_row(states, target, generator.length() * row, words);
-    for place in (0..generator.length()).rev() {
-        prepare::<F>(checks, shape, place, &mut high, &mut low);
-        let prices = prices_at(reception, shape.order, place);
-        fill_row::<F>(
-            shape.highs,
-            shape.lows,
-            &prices,
-            &high,
-            &low,
-            place * row,
-            words,
-        );
     }
 }

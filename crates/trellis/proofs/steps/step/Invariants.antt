@@ -1,10 +1,13 @@
-use Rattle.std.proofs.Common.{◌≡◌, ◌+◌, ◌-◌, ◌*◌, ◌^◌}
+use Rattle.std.proofs.Common.{◌≡◌, ℕ, ◌+◌, ◌*◌, ◌^◌, ◌≤◌, length, ◌-◌}
+use Rattle.algebra.specs.Words.{word}
 use Rattle.cosets.specs.States.{moved}
-use Rattle.trellis.specs.Steps.{column_from}
 use Rattle.trellis.proofs.steps.step.Given as goal
 
-abbrev pub invariant-loop-i : goal.invariant-loop-i
-invariant-loop-i g l =
+abbrev pub invariant-loop-check : goal.invariant-loop-check
+invariant-loop-check g l =
     let f = g.F.Field.ops in
-    let column = column_from l.checks 0 l.place in
-    (l.to + moved f column l.i l.rest l.x * l.unit ≡ moved f column l.digits l.state l.x) × (l.unit ≡ f.order ^ (l.digits - l.i))
+    let left : ℕ = length l.column - length l.yielded in
+    (goal.iterator-loop-check g).can_next l.check-iterator ×
+    (goal.iterator-loop-check g).is_finite l.check-iterator ×
+    (l.to + moved f (word l.column) left l.rest l.x * l.unit ≡ moved f (word l.column) (length l.column) l.state l.x) ×
+    (l.unit ≡ f.order ^ length l.yielded) × (length l.yielded ≤ length l.column)
