@@ -1,4 +1,5 @@
-// How long the rows of a basis are, and how many there are.
+// How long the rows of a basis are, and how many there are. A generator is asked the same; each answer
+// is one field, so a trait for both would be longer.
 ghost use Rattle.std.specs.Prelude.{◌≡◌};
 ghost use Rattle.basis.specs.Parts.{size, count};
 

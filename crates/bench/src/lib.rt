@@ -36,8 +36,9 @@ impl<'a> Task<'a> {
     }
 }
 
-// Answers the cost of the last decoding, or 1,000 plus the number of a refusal. Where there is no
-// field of q symbols it answers 1,000 and does nothing; more is not promised of a measurement.
+// Answers the cost of the last decoding, or 1,000 plus the number of a refusal, since C is given one
+// number. Where there is no field of q symbols it answers 1,000 and does nothing; more is not promised
+// of a measurement.
 #[unsafe(no_mangle)]
 pub extern "C" fn bench_decode(
     q: u32,

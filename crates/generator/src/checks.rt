@@ -74,6 +74,7 @@ impl Generator {
         ensures codeword { ZeroExactly F.Field.ops self.now (λ p. slice_index word.now p) result }
     {
         let mut index = 0;
+        // Check places are asked for by their number, which is the place of nothing that is held.
         for i in 0..self.n - self.k {
             if let Some(place) = self.check_place(i) {
                 let symbol = self.syndrome_symbol::<F>(word, place);

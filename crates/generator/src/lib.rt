@@ -14,7 +14,8 @@ use linear::rows::Row;
 // `k` rows of `n` places. Each row has 1 at its own information place and 0 at those of the other
 // rows, and the places ascend. These facts are of 0s and 1s, so the type has them for every field;
 // in a field a stored number that is no symbol counts as 0.
-// The rows are an array with their count beside it, and no `ArrayVec`, which is not `Copy`.
+// The rows are an array with their count beside it, and no `ArrayVec`, which is not `Copy`. A basis
+// has facts of the same names, but there a row is 0 only at the places of the rows before it.
 #[derive(Clone, Copy)]
 pub struct Generator {
     n: usize,

@@ -43,7 +43,8 @@ impl Tally {
         true
     }
 
-    // Counts a decoding that was tied, and tells whether it did: not at a full tally.
+    // Counts a decoding that was tied, and tells whether it did, by a `bool` as above: not at a full
+    // tally.
     pub fn add_tied(&mut self) -> bool
         ensures { TiedCounted self.old result self.new }
     {
