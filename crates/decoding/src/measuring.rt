@@ -8,10 +8,10 @@ use field::Field;
 use generator::Generator;
 use reception::HardWord;
 use refusal::Refusal;
-use trellis::{cheapest, lightest};
+use trellis::{cheapest, lightest, weights};
 
 // Writes the leader of a coset, given by its index. Answers the leader's weight, and whether it is
-// the only word of that weight in the coset. A symbol weighs what it costs where 0 was received.
+// the only word of that weight in the coset: a pair, since every coset has both.
 pub fn leader<F: Field>(
     generator: &Generator,
     index: usize,
@@ -22,8 +22,7 @@ pub fn leader<F: Field>(
     ensures work { MatchResult result (λ _. Cleared work.new) (λ _. work.new ≡ work.old) }
     ensures out { OnErr result (out.new ≡ out.old) }
 {
-    let zeros = [0; 24];
-    let weights = HardWord::new(&zeros[0..generator.length()]);
+    let weights = weights(generator);
     let least = cheapest::<F, HardWord>(generator, &weights, index, work, out)?;
     Ok((least.cost, least.sole))
 }
@@ -34,6 +33,5 @@ pub fn distance<F: Field>(generator: &Generator, work: &mut [u32]) -> Result<Opt
     ensures told { DistanceFound F.Field.ops generator.now (length work.old) result }
     ensures work { MatchResult result (λ _. Cleared work.new) (λ _. work.new ≡ work.old) }
 {
-    let found = lightest::<F>(generator, work)?;
-    Ok(found)
+    lightest::<F>(generator, work)
 }

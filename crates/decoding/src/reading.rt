@@ -43,8 +43,8 @@ pub fn decode<F: Field, R: Reception>(
         tally.add_tied();
         return Err(Refusal::Tied(least.cost));
     }
-    for j in 0..k {
-        message[j] = word[generator.place(j)];
+    for (j, symbol) in message.iter_mut().enumerate() {
+        *symbol = word[generator.place(j)];
     }
     tally.add_answered(least.cost);
     Ok(least.cost)

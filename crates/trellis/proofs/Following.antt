@@ -1,8 +1,10 @@
 -- A word that is traced over a trellis, one place on.
-use Rattle.std.proofs.Common.{◌≡◌, ℕ, suc, ◌+◌, ◌-◌, ◌<◌, List, [], ◌∷◌, ◌++◌, sym, ap, ◌∙◌, subst, arith}
+use Rattle.std.proofs.Common.{◌≡◌, ℕ, suc, ◌+◌, ◌-◌, ◌<◌, List, [], ◌∷◌, ◌++◌, Option, Some, None, sym, refl, ap, ◌∙◌, subst, arith}
+use Rattle.std.specs.Option.{MatchOption, IsSome}
 use Rattle.least.specs.Paths.{Trellis}
 use Rattle.least.specs.Least.{best_of, best, zero_apart, best_other}
 use Rattle.least.specs.Tables.{Picked}
+use Rattle.least.proofs.Choosing.{best_of_found}
 use Rattle.least.proofs.Tracing.{Traced, trace_more}
 
 module _ (t : Trellis) (n i s : ℕ) (inside : i < n) where
@@ -19,6 +21,25 @@ module _ (t : Trellis) (n i s : ℕ) (inside : i < n) where
   -- the least over the symbols is that of the state
   pub least_is : best t (n - i) i s ≡ best_of cost ways t.symbols
   least_is = ap (λ k. best t k i s) left
+
+  -- whether the least cost is had by a symbol
+  abbrev pub Pays : ℕ → Type 0
+  Pays x = (0 < ways x) × (cost x ≡ (best t (n - i) i s).0)
+
+  -- the last symbol by which it is had, if there is one
+  abbrev pub Last : Option ℕ → Type 0
+  Last r = MatchOption r ((x : ℕ) → x < t.symbols → Pays x → ⊥) (λ x. (x < t.symbols) × Pays x × ((y : ℕ) → x < y → y < t.symbols → Pays y → ⊥))
+
+  pub last_some : (r : Option ℕ) → Last r → 0 < (best t (n - i) i s).1 → IsSome r
+  last_some None none live =
+      let o = best_of_found cost ways t.symbols (omega (arith, live, ap (λ r. r.1) least_is)) in
+      absurd (none o.0 o.1.0 (o.1.1, o.1.2 ∙ sym (ap (λ r. r.0) least_is)))
+  last_some (Some x) found live = refl
+
+  pub last_picked : (r : Option ℕ) (x : ℕ) → r ≡ Some x → Last r → Picked t.symbols cost ways (best t (n - i) i s).0 x
+  last_picked r x e last =
+      let found = rw e at last in
+      record { symbol = found.0; live = found.1.0; paid = found.1.1; largest = λ y more symbol live paid. found.2 y more symbol (live, paid) }
 
   pub follows : (x : ℕ) (p : List ℕ) → Picked t.symbols cost ways (best t (n - i) i s).0 x → Traced t n (n - i) i s p → Traced t n (n - (i + 1)) (i + 1) (t.next i s x) (p ++ x ∷ [])
   follows x p picked traced =

@@ -10,3 +10,4 @@ pub mod Tabling
 pub mod Following
 pub mod Rooming
 pub mod Lightening
+pub mod Descending

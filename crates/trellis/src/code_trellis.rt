@@ -6,7 +6,7 @@ ghost use Rattle.cosets.specs.States.{cosets, next};
 ghost use Rattle.cheapest.specs.Trellises.{trellis_of};
 ghost use Rattle.trellis.specs.Branches.{Branched};
 ghost use Rattle.trellis.specs.Columns.{Columns};
-ghost use Rattle.trellis.specs.Shapes.{Shaped};
+ghost use Rattle.trellis.specs.Shapes.{Shaped, states};
 
 use crate::branch::Branch;
 use crate::shape::Shape;
@@ -76,7 +76,7 @@ impl<'a, F: Field, R: Reception> Trellis<'a, F, R> {
     pub(crate) fn next(&self, place: usize, state: usize, x: u8) -> usize
         requires { place < size self.now.generator.now }
         ensures value { result ≡ next F.Field.ops self.now.generator.now place state x }
-        ensures below { result < self.now.shape.highs * self.now.shape.lows }
+        ensures below { result < states self.now.shape }
     {
         let column = self.columns[place];
         step::<F>(&column[..self.shape.digits()], state, x)
@@ -89,6 +89,7 @@ fn check_columns<F: Field>(generator: &Generator) -> [[u8; 24]; 24]
 {
     let n = generator.length();
     let mut columns = [[0; 24]; 24];
+    // Check places are asked for by their number, under which their rows stand in the columns.
     for i in 0..n - generator.dimension() {
         if let Some(place) = generator.check_place(i) {
             let mut row = [0; 24];

@@ -1,5 +1,5 @@
 // The cheapest word of a coset.
-ghost use Rattle.std.specs.Prelude.{◌≡◌, ◌+◌, ◌-◌, ◌*◌, ◌<◌, length, MatchResult, OnErr};
+ghost use Rattle.std.specs.Prelude.{◌≡◌, ◌+◌, ◌-◌, ◌*◌, ◌<◌, length, IsTrue, ◌↔◌, MatchResult, OnErr};
 ghost use Rattle.algebra.specs.Words.{word};
 ghost use Rattle.generator.specs.Parts.{size};
 ghost use Rattle.cosets.specs.States.{next};
@@ -9,6 +9,7 @@ ghost use Rattle.cheapest.specs.Cheapest.{Cheapest, Sole};
 ghost use Rattle.cheapest.specs.Trellises.{trellis_of};
 ghost use Rattle.trellis.specs.Clearing.{Cleared};
 ghost use Rattle.trellis.specs.Told.{CheapestFound};
+ghost use Rattle.trellis.specs.Shapes.{states};
 
 use crate::code_trellis::Trellis;
 use crate::cost::Least;
@@ -21,23 +22,30 @@ use reception::Reception;
 use refusal::Refusal;
 
 impl<'a, F: Field, R: Reception> LeastCosts<'a, F, R> {
+    // Whether the least cost from a state at a place is had by the symbol x.
+    fn is_least_by(&self, place: usize, state: usize, x: u8) -> bool
+        requires inside { place < size self.now.trellis.now.generator.now }
+        requires known { state < states self.now.trellis.now.shape }
+        ensures { IsTrue result ↔ ((0 < (best (trellis_of F.Field.ops self.now.trellis.now.generator.now (R.Reception.costs self.now.trellis.now.reception.now) self.now.trellis.now.coset) (size self.now.trellis.now.generator.now - (place + 1)) (place + 1) (next F.Field.ops self.now.trellis.now.generator.now place state x)).1) × ((R.Reception.costs self.now.trellis.now.reception.now).cost place x + (best (trellis_of F.Field.ops self.now.trellis.now.generator.now (R.Reception.costs self.now.trellis.now.reception.now) self.now.trellis.now.coset) (size self.now.trellis.now.generator.now - (place + 1)) (place + 1) (next F.Field.ops self.now.trellis.now.generator.now place state x)).0 ≡ (best (trellis_of F.Field.ops self.now.trellis.now.generator.now (R.Reception.costs self.now.trellis.now.reception.now) self.now.trellis.now.coset) (size self.now.trellis.now.generator.now - place) place state).0)) }
+    {
+        let least = self.row(place).costs[state];
+        let price = self.trellis.reception.cost(place, x) as u32;
+        let to = self.trellis.next(place, state, x);
+        let after = self.row(place + 1);
+        matches!(after.via(price, to), Some(found) if found.cost == least)
+    }
+
     // The largest symbol by which the least cost is had from a state at a place.
     fn pick(&self, place: usize, state: usize) -> u8
         requires inside { place < size self.now.trellis.now.generator.now }
-        requires known { state < self.now.trellis.now.shape.highs * self.now.trellis.now.shape.lows }
+        requires known { state < states self.now.trellis.now.shape }
         requires live { 0 < (best (trellis_of F.Field.ops self.now.trellis.now.generator.now (R.Reception.costs self.now.trellis.now.reception.now) self.now.trellis.now.coset) (size self.now.trellis.now.generator.now - place) place state).1 }
         ensures { Picked F.Field.ops.order (λ x. (R.Reception.costs self.now.trellis.now.reception.now).cost place x + (best (trellis_of F.Field.ops self.now.trellis.now.generator.now (R.Reception.costs self.now.trellis.now.reception.now) self.now.trellis.now.coset) (size self.now.trellis.now.generator.now - (place + 1)) (place + 1) (next F.Field.ops self.now.trellis.now.generator.now place state x)).0) (λ x. (best (trellis_of F.Field.ops self.now.trellis.now.generator.now (R.Reception.costs self.now.trellis.now.reception.now) self.now.trellis.now.coset) (size self.now.trellis.now.generator.now - (place + 1)) (place + 1) (next F.Field.ops self.now.trellis.now.generator.now place state x)).1) (best (trellis_of F.Field.ops self.now.trellis.now.generator.now (R.Reception.costs self.now.trellis.now.reception.now) self.now.trellis.now.coset) (size self.now.trellis.now.generator.now - place) place state).0 result }
     {
-        let least = self.row(place).costs[state];
-        let after = self.row(place + 1);
-        for x in (0..F::order()).rev() {
-            let price = self.trellis.reception.cost(place, x) as u32;
-            let to = self.trellis.next(place, state, x);
-            if after.ways[to] != 0 && price + after.costs[to] == least {
-                return x;
-            }
-        }
-        unreachable()
+        let found = (0..F::order())
+            .rev()
+            .find(|x| self.is_least_by(place, state, *x));
+        found.unwrap()
     }
 
     // Writes the cheapest word of the coset.
@@ -52,11 +60,7 @@ impl<'a, F: Field, R: Reception> LeastCosts<'a, F, R> {
             *slot = x;
             state = self.trellis.next(place, state, x);
         }
-        let first = self.row(0);
-        Least {
-            cost: first.costs[0],
-            sole: first.ways[0] == 1,
-        }
+        self.row(0).via(0, 0).unwrap()
     }
 }
 

@@ -16,4 +16,4 @@ mod weight;
 pub use coset::cheapest;
 pub use cost::Least;
 pub use shape::check_room;
-pub use weight::lightest;
+pub use weight::{lightest, weights};

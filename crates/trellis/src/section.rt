@@ -5,6 +5,7 @@ ghost use Rattle.least.specs.Least.{best};
 ghost use Rattle.cheapest.specs.Trellises.{trellis_of};
 ghost use Rattle.trellis.specs.Rows.{Filled, Holds};
 ghost use Rattle.trellis.specs.Branches.{Branched};
+ghost use Rattle.trellis.specs.Shapes.{states};
 
 use crate::branch::Branch;
 use crate::code_trellis::Trellis;
@@ -22,14 +23,15 @@ pub(crate) struct Section<'a, F: Field, R: Reception> {
     ghost inside: { place < size trellis.now.generator.now },
     ghost symbols: { length branches.now ≡ F.Field.ops.order },
     ghost branched: { Branched (trellis_of F.Field.ops trellis.now.generator.now (R.Reception.costs trellis.now.reception.now) trellis.now.coset) place trellis.now.shape.highs trellis.now.shape.lows branches.now },
-    ghost states: { length after.costs.now ≡ trellis.now.shape.highs * trellis.now.shape.lows },
+    ghost states: { length after.costs.now ≡ states trellis.now.shape },
     ghost row: { Holds (trellis_of F.Field.ops trellis.now.generator.now (R.Reception.costs trellis.now.reception.now) trellis.now.coset) (size trellis.now.generator.now - (place + 1)) (place + 1) after.costs.now after.ways.now },
 }
 
 impl<'a, F: Field, R: Reception> Section<'a, F, R> {
     // The least cost from the state of the upper half u and the lower half v, over all symbols, and
     // in how many ways it is had. Most of the time goes by here, so both are numbers, as in the rows:
-    // with a `Least` for each symbol decoding takes twice as long.
+    // with a `Least` for each symbol, and `cheaper` in place of the tests here, decoding takes twice
+    // as long.
     fn reach(&self, u: usize, v: usize) -> (u32, u32)
         requires upper { u < self.now.trellis.now.shape.highs }
         requires lower { v < self.now.trellis.now.shape.lows }
@@ -69,11 +71,12 @@ impl<'a, F: Field, R: Reception> Section<'a, F, R> {
 
     // Fills the row of the place, by the row of the place after it.
     pub(crate) fn fill(&self, row: &mut [u32])
-        requires { length row.old ≡ self.now.trellis.now.shape.highs * self.now.trellis.now.shape.lows + self.now.trellis.now.shape.highs * self.now.trellis.now.shape.lows }
-        ensures { Filled (trellis_of F.Field.ops self.now.trellis.now.generator.now (R.Reception.costs self.now.trellis.now.reception.now) self.now.trellis.now.coset) (size self.now.trellis.now.generator.now - self.now.place) self.now.place (self.now.trellis.now.shape.highs * self.now.trellis.now.shape.lows) row.new }
+        requires { length row.old ≡ states self.now.trellis.now.shape + states self.now.trellis.now.shape }
+        ensures { Filled (trellis_of F.Field.ops self.now.trellis.now.generator.now (R.Reception.costs self.now.trellis.now.reception.now) self.now.trellis.now.coset) (size self.now.trellis.now.generator.now - self.now.place) self.now.place (states self.now.trellis.now.shape) row.new }
     {
         let shape = self.trellis.shape;
         let (costs, ways) = row.split_at_mut(shape.states());
+        // The part of the costs and that of the ways are lent together, so both are cut by number.
         for u in 0..shape.highs {
             let first = u * shape.lows;
             let end = first + shape.lows;

@@ -37,7 +37,8 @@ fn spread<F: Field>(out: &mut [u16], base: u16, added: u8, unit: u16)
 }
 
 // From the steps of `count` states to those of the states that have one digit more. The last state
-// comes first, so that none is written over before it is used.
+// comes first, so that none is written over before it is used; each is read in one place and written
+// in others, so that the loop goes by its number.
 fn widen<F: Field>(out: &mut [u16], count: usize, added: u8, unit: u16)
     requires room { count * F.Field.ops.order ≤ length out.old }
     requires small { (u : ℕ) → u < count → slice_index out.old u * F.Field.ops.order + F.Field.ops.order * unit ≤ 4096 }

@@ -1,7 +1,9 @@
 // The least weight of a codeword that is not all 0.
 ghost use Rattle.std.specs.Prelude.{◌≡◌, ◌+◌, ◌-◌, ◌<◌, length, MatchResult};
 ghost use Rattle.generator.specs.Parts.{size};
+ghost use Rattle.reception.specs.Layers.{hard_word};
 ghost use Rattle.least.specs.Least.{best_other};
+ghost use Rattle.cheapest.specs.Lightest.{weights};
 ghost use Rattle.cheapest.specs.Trellises.{trellis_of};
 ghost use Rattle.trellis.specs.Clearing.{Cleared};
 ghost use Rattle.trellis.specs.Leasts.{told};
@@ -45,6 +47,7 @@ impl<'a, F: Field, R: Reception> LeastCosts<'a, F, R> {
         ensures { told result ≡ best_other (trellis_of F.Field.ops self.now.trellis.now.generator.now (R.Reception.costs self.now.trellis.now.reception.now) self.now.trellis.now.coset) (size self.now.trellis.now.generator.now) 0 }
     {
         let mut least = None;
+        // From the last place back, each by the one after it.
         for place in (0..self.trellis.generator.length()).rev() {
             least = self.other_at(place, least);
         }
@@ -52,15 +55,22 @@ impl<'a, F: Field, R: Reception> LeastCosts<'a, F, R> {
     }
 }
 
-// The least weight of a codeword that is not all 0, or nothing where there is no such codeword. A
-// symbol weighs what it costs where 0 was received.
+static ZEROS: [u8; 24] = [0; 24];
+
+// What symbols weigh, as costs: a symbol weighs what it costs where 0 was received.
+pub fn weights(generator: &Generator) -> HardWord<'static>
+    ensures { hard_word result.bytes.now ≡ weights generator.now }
+{
+    HardWord::new(&ZEROS[..generator.length()])
+}
+
+// The least weight of a codeword that is not all 0, or nothing where there is no such codeword.
 pub fn lightest<F: Field>(generator: &Generator, work: &mut [u32]) -> Result<Option<u32>, Refusal>
     ensures told { LightestFound F.Field.ops generator.now (length work.old) result }
     ensures work { MatchResult result (λ _. Cleared work.new) (λ _. work.new ≡ work.old) }
 {
     let shape = Shape::with_room::<F>(generator, work.len())?;
-    let zeros = [0; 24];
-    let weights = HardWord::new(&zeros[..generator.length()]);
+    let weights = weights(generator);
     let trellis = Trellis::<F, HardWord>::new(generator, &weights, 0, shape);
     let guard = Scratch { words: work };
     trellis.fill(guard.words);

@@ -1,9 +1,8 @@
-use Rattle.std.proofs.Common.{◌≡◌, ℕ, ◌<◌, ◌≤◌, length, take, replicate, sym, ap, ◌∙◌, subst, rules, arith}
+use Rattle.std.proofs.Common.{◌≡◌, ◌<◌, length, sym, ap, ◌∙◌, subst, rules, arith}
 use Rattle.reception.specs.Layers.{hard_word}
 use Rattle.least.specs.Least.{best_other}
 use Rattle.cheapest.specs.Lightest.{Lightest}
 use Rattle.cheapest.specs.Trellises.{trellis_of}
-use Rattle.cheapest.proofs.Weighing.{first_zeros}
 use Rattle.trellis.specs.Leasts.{told}
 use Rattle.trellis.proofs.Lightening.{weight_of, lightest_told}
 use Rattle.generator.specs.Parts.{size}
@@ -34,10 +33,8 @@ pub returns-clause-told : goal.returns-clause-told
 returns-clause-told g c =
     let f = g.F.Field.ops in
     let gen = c.args.generator.now in
-    let short : size gen ≤ 24 = gen.short in
-    let bytes = c.new-weights.ensures ∙ ap (λ k. take {A = ℕ} k (replicate 24 0)) c.length.ensures ∙ first_zeros (size gen) 24 short in
     let made = c.new-trellis.ensures in
-    let costs = ap (λ w. hard_word w.bytes.now) made.reception ∙ ap hard_word bytes in
+    let costs = ap (λ w. hard_word w.bytes.now) made.reception ∙ c.weights-weights.ensures in
     let least = said (λ a b t. told c.least_other.result ≡ best_other (trellis_of f a b t) (size a) 0) made.generator costs made.coset c.least_other.ensures in
     let is : c.map.result ≡ weight_of c.least_other.result = search rules in
     (c.in_ok-shape.ensures.0, (c.in_ok-shape.ensures.1.0, subst (Lightest f gen) (sym is) (lightest_told f g.F.Field.laws gen c.least_other.result least)))
