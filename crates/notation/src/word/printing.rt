@@ -1,5 +1,5 @@
 // From a word to text.
-ghost use Rattle.std.specs.Prelude.{◌≤◌, length, IfOk, Some, string_bytes};
+ghost use Rattle.std.specs.Prelude.{◌≡◌, ◌≤◌, length, IfOk, Some, string_bytes};
 ghost use Rattle.notation.specs.Only.{Only};
 ghost use Rattle.notation.specs.Words.{printed, Prints, Readable, Spells, Writable};
 
@@ -28,6 +28,7 @@ impl fmt::Display for InPrint<'_> {
 
 // The text of `word`. Where all are symbols, the text spells `word` and nothing else, and so up to 80 of them read back as `word`.
 pub fn spelled(heap: Global, word: &[u8]) -> Result<String, AllocError>
+    ensures printed { IfOk result (λ text. string_bytes text ≡ printed word.now) }
     ensures prints { IfOk result (λ text. Prints (string_bytes text) word.now) }
     ensures spells { Writable word.now → IfOk result (λ text. Only (Spells (string_bytes text)) (Some word.now)) }
     ensures reads_back { Writable word.now → length word.now ≤ 80 → IfOk result (λ text. Only (Readable (string_bytes text)) (Some word.now)) }

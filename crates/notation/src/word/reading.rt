@@ -25,13 +25,14 @@ impl Model for Word {
 impl Word {
     // The symbols of the word, first to last.
     pub fn symbols(&self) -> &[u8]
-        ensures { result.now ≡ self.now }
+        ensures value { result.now ≡ self.now }
+        ensures fits { length result.now ≤ 80 }
     {
         &self.symbols
     }
 }
 
-// A word of lent symbols, unless they are more than 80.
+// A word of lent numbers, unless they are more than 80. Whether they are symbols is not asked.
 impl TryFrom<&[u8]> for Word {
     type Error = CapacityError;
 

@@ -13,4 +13,4 @@ returns-in-Hear g c =
     let left = c.hear.new.work in
     let W : List ℕ → Type 0 = λ w. Heard f code w was next c.hear.result left in
     let P : Command → Type 0 = λ k. AtCode f code k was next (Some c.hear.result) left in
-    subst P (sym c.in-Hear.is) (c.hear.result, refl, subst W c.symbols-in-Hear.ensures c.hear.ensures)
+    subst P (sym c.in-Hear.is) (c.hear.result, refl, subst W c.symbols-in-Hear.ensures.value c.hear.ensures)

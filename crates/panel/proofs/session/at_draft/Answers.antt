@@ -19,7 +19,7 @@ returns-in-Row g c =
     let number : c.map.result ≡ replied Number a = search rules in
     let W : List ℕ → Type 0 = λ w. Turns f (basis_of d) (λ s. RowPushed f s w) (λ s. after_push s w) a (basis_of e) in
     let P : Command → Type 0 = λ k. AtDraft f d k (Open e) (Some c.map.result) in
-    subst P (sym c.in-Row.is) (e, a, refl, ap (λ (r : Result Reply Refusal). Some r) number, subst W c.symbols.ensures c.push_row-rows.ensures.told)
+    subst P (sym c.in-Row.is) (e, a, refl, ap (λ (r : Result Reply Refusal). Some r) number, subst W c.symbols.ensures.value c.push_row-rows.ensures.told)
 
 pub returns-in-Back : goal.returns-in-Back
 returns-in-Back g c =
