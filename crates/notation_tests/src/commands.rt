@@ -5,7 +5,7 @@ use notation::word::Word;
 use std::test::Fail;
 
 // The word with these symbols.
-fn word(symbols: &[u8]) -> Result<Word, CapacityError> {
+pub(crate) fn word(symbols: &[u8]) -> Result<Word, CapacityError> {
     Word::try_from(symbols)
 }
 

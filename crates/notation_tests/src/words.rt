@@ -1,18 +1,8 @@
 // Words, and the texts that spell them.
+use crate::commands::word;
 use notation::symbol::{char_of, symbol_of};
 use notation::word::{InPrint, Word, read_word, spelled};
-use std::alloc::Global;
 use std::test::Fail;
-
-// Whether the text spells these symbols.
-fn reads(text: &[u8], symbols: &[u8]) -> bool {
-    read_word(text).is_some_and(|word| word.symbols() == symbols)
-}
-
-// Whether the word is printed as this text.
-fn prints(heap: Global, word: &[u8], text: &str) -> bool {
-    spelled(heap, word).is_ok_and(|printed| printed.as_str() == text)
-}
 
 #[test]
 fn symbols(rt: HostRuntime) -> Result<(), Fail> {
@@ -28,25 +18,24 @@ fn symbols(rt: HostRuntime) -> Result<(), Fail> {
 }
 
 #[test]
-fn reading(rt: HostRuntime) {
-    assert!(rt; reads(b"-", &[]));
-    assert!(rt;
-        reads(
-            b"0123456789abcdef",
-            &[0, 1, 2, 3, 4, 5, 6, 7, 8, 9, 10, 11, 12, 13, 14, 15],
-        )
-    );
+fn reading(rt: HostRuntime) -> Result<(), Fail> {
+    let all = [0, 1, 2, 3, 4, 5, 6, 7, 8, 9, 10, 11, 12, 13, 14, 15];
+    assert_eq!(rt; read_word(b"-"), Some(word(&[])?));
+    assert_eq!(rt; read_word(b"0123456789abcdef"), Some(word(&all)?));
     assert!(rt; read_word(b"").is_none());
     assert!(rt; read_word(b"0-").is_none());
-    assert!(rt; reads(&[b'f'; 80], &[15; 80]));
+    assert_eq!(rt; read_word(&[b'f'; 80]), Some(word(&[15; 80])?));
     assert!(rt; read_word(&[b'f'; 81]).is_none());
+    Ok(())
 }
 
 #[test]
-fn printing(rt: HostRuntime) {
-    assert!(rt; prints(rt.alloc(), &[], "-"));
-    assert!(rt; prints(rt.alloc(), &[0, 9, 10, 15], "09af"));
-    assert!(rt; prints(rt.alloc(), &[1, 16, 255, 2], "1??2"));
+fn printing(rt: HostRuntime) -> Result<(), Fail> {
+    let heap = rt.alloc();
+    assert_eq!(rt; spelled(heap, &[])?.as_str(), "-");
+    assert_eq!(rt; spelled(heap, &[0, 9, 10, 15])?.as_str(), "09af");
+    assert_eq!(rt; spelled(heap, &[1, 16, 255, 2])?.as_str(), "1??2");
+    Ok(())
 }
 
 #[test]
@@ -68,8 +57,8 @@ fn lent_words(rt: HostRuntime) -> Result<(), Fail> {
 
 #[test]
 fn round_trip(rt: HostRuntime) -> Result<(), Fail> {
-    let word = [3, 0, 15, 8];
-    let text = spelled(rt.alloc(), &word)?;
-    assert!(rt; reads(text.as_bytes(), &word));
+    let symbols = [3, 0, 15, 8];
+    let text = spelled(rt.alloc(), &symbols)?;
+    assert_eq!(rt; read_word(text.as_bytes()), Some(word(&symbols)?));
     Ok(())
 }

@@ -14,8 +14,8 @@ pub(crate) enum Stage<F> {
     Sealed(Code<F>),
 }
 
-// Nothing, until the field and the length are known. That is a state like the other four: as an
-// `Option` around them it would only nest each `match`.
+// Nothing, until the field and the length are known. That is a state like the other four: an `Option`
+// around them would only nest the `match` on them. The field is a type, so each has its own case.
 #[derive(Drop)]
 pub(crate) enum Panel {
     Fresh,

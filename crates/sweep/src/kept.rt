@@ -2,7 +2,8 @@
 use refusal::Refusal;
 use tally::Tally;
 
-// How many decodings were answered and tied, and what the answered ones cost.
+// How many decodings were answered and tied, and what the answered ones cost. It counts as a tally does,
+// and apart from it, so that the tally is compared with something.
 #[derive(Clone, Copy, Default, PartialEq, Eq)]
 pub(crate) struct Kept {
     pub(crate) answered: u32,

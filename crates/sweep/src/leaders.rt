@@ -19,6 +19,7 @@ fn syndrome_index<F: Field>(checks: &[Word], word: &Word) -> usize {
 impl<F: Field> Sample<F> {
     fn check_rows(&self, heap: Global) -> Result<Vec<Word>, Fault> {
         let mut rows = Vec::new(heap);
+        // Check rows are asked for by their number.
         for i in 0..self.shape.checks() {
             let mut row = unwritten(self.shape.length);
             self.code
