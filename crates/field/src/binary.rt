@@ -33,6 +33,9 @@ pub(crate) trait Tables<const N: usize> {
 // The field of four symbols, where α² = α + 1.
 pub type Four = Polynomials<4>;
 
+// Its one value, by the same name.
+pub const Four: Four = Polynomials;
+
 impl Tables<4> for Four {
     ghost digits = { 2 };
 
@@ -51,6 +54,9 @@ impl Tables<4> for Four {
 
 // The field of sixteen symbols, where α⁴ = α + 1.
 pub type Sixteen = Polynomials<16>;
+
+// Its one value, by the same name.
+pub const Sixteen: Sixteen = Polynomials;
 
 impl Tables<16> for Sixteen {
     ghost digits = { 4 };

@@ -18,12 +18,18 @@ pub(crate) trait Prime<const P: u8> {
 // The field of two symbols.
 pub type Two = Remainders<2>;
 
+// Its one value, by the same name.
+pub const Two: Two = Remainders;
+
 impl Prime<2> for Two {
     ghost laws = { two_laws };
 }
 
 // The field of three symbols.
 pub type Three = Remainders<3>;
+
+// Its one value, by the same name.
+pub const Three: Three = Remainders;
 
 impl Prime<3> for Three {
     ghost laws = { three_laws };

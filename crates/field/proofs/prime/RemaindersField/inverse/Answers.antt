@@ -60,4 +60,7 @@ module _ (p a : ℕ) where
       ∙ ap (λ (k : Range ℕ). inverse_below (remainders p).product a k.end) e ∙ by_product
 
 pub returns : goal.returns
-returns g c = c.unwrap_or.ensures ∙ found g.row.P c.args.a c.rev.result c.find.new.self _ c.find.result c.find.ensures.ran c.rev.ensures.source (λ x b q k. search rules)
+returns g c =
+    let inverse : unwrap_or c.find.result 0 ≡ (remainders g.row.P).inverse c.args.a = found g.row.P c.args.a c.rev.result c.find.new.self _ c.find.result c.find.ensures.ran c.rev.ensures.source (λ x b q k. search rules) in
+    let told : c.unwrap_or.result ≡ unwrap_or c.find.result 0 = search rules in
+    told ∙ inverse
