@@ -1,7 +1,6 @@
 -- Least costs that are told.
-use Rattle.std.proofs.Common.{◌≡◌, ℕ, zero, suc, ◌+◌, ◌≤◌, ◌<◌, Some, None, Option, Bool, true, false, cond, eqb, ltb, subst, ap₂, refl, arith}
+use Rattle.std.proofs.Common.{◌≡◌, ℕ, zero, suc, ◌+◌, ◌≤◌, Some, None, Option, eqb, ltb, subst, ap₂, refl, arith}
 use Rattle.std.proofs.lemmas.Bool.{cond_both}
-use Rattle.std.specs.Option.{IsSome}
 use Rattle.least.specs.Paths.{Trellis}
 use Rattle.least.specs.Least.{better, best_of, best}
 use Rattle.trellis.specs.declared.cost.Least.{Least}
@@ -32,12 +31,3 @@ best_of_two cost ways (suc y) h = better_two _ _ _ _ (best_of_two cost ways y h)
 pub best_two : (t : Trellis) (k i s : ℕ) → (best t k i s).1 ≤ 2
 best_two t zero i s = cond_both {A = ℕ × ℕ} (eqb s t.target) (0, 1) (0, 0) (λ r. r.1 ≤ 2) (λ _. omega arith) (λ _. omega arith)
 best_two t (suc k) i s = best_of_two _ _ t.symbols (λ x. best_two t k (i + 1) (t.next i s x))
-
--- what is had is told, and whether in one way
-pub tells_some : (o : Option Least) (cost ways : ℕ) → Tells o cost ways → 0 < ways → IsSome o
-tells_some None cost ways none some = absurd (omega arith)
-tells_some (Some l) cost ways told some = refl
-
-pub sole_way : (sole : Bool) → eqb (cond sole 1 2) 1 ≡ sole
-sole_way true = refl
-sole_way false = refl

@@ -60,7 +60,11 @@ impl<'a, F: Field, R: Reception> LeastCosts<'a, F, R> {
             *slot = x;
             state = self.trellis.next(place, state, x);
         }
-        self.row(0).via(0, 0).unwrap()
+        let first = self.row(0);
+        Least {
+            cost: first.costs[0],
+            sole: first.ways[0] == 1,
+        }
     }
 }
 

@@ -31,7 +31,9 @@ impl<'a, F: Field, R: Reception> Section<'a, F, R> {
     // The least cost from the state of the upper half u and the lower half v, over all symbols, and
     // in how many ways it is had. Most of the time goes by here, so both are numbers, as in the rows:
     // with a `Least` for each symbol, and `cheaper` in place of the tests here, decoding takes twice
-    // as long.
+    // as long. The symbols are counted by the field's order, which the compiler knows for each field
+    // and the length of a slice it does not: over the branches themselves decoding in the field of
+    // two took a third more time.
     fn reach(&self, u: usize, v: usize) -> (u32, u32)
         requires upper { u < self.now.trellis.now.shape.highs }
         requires lower { v < self.now.trellis.now.shape.lows }
@@ -39,7 +41,8 @@ impl<'a, F: Field, R: Reception> Section<'a, F, R> {
     {
         let mut least = 0;
         let mut ways = 0;
-        for branch in self.branches {
+        for x in 0..F::order() as usize {
+            let branch = &self.branches[x];
             let to = branch.high[u] as usize + branch.low[v] as usize;
             let more = self.after.ways[to];
             if more != 0 {

@@ -78,5 +78,6 @@ pub fn lightest<F: Field>(generator: &Generator, work: &mut [u32]) -> Result<Opt
         trellis: &trellis,
         words: guard.words,
     };
-    Ok(table.least_other().map(|least| least.cost))
+    let weight = table.least_other().map(|least| least.cost);
+    Ok(weight)
 }

@@ -36,5 +36,5 @@ returns-clause-told g c =
     let made = c.new-trellis.ensures in
     let costs = ap (λ w. hard_word w.bytes.now) made.reception ∙ c.weights-weights.ensures in
     let least = said (λ a b t. told c.least_other.result ≡ best_other (trellis_of f a b t) (size a) 0) made.generator costs made.coset c.least_other.ensures in
-    let is : c.map.result ≡ weight_of c.least_other.result = search rules in
+    let is : c.map-weight.result ≡ weight_of c.least_other.result = search rules in
     (c.in_ok-shape.ensures.0, (c.in_ok-shape.ensures.1.0, subst (Lightest f gen) (sym is) (lightest_told f g.F.Field.laws gen c.least_other.result least)))

@@ -1,13 +1,13 @@
-use Rattle.std.proofs.Common.{◌≡◌, ◌-◌, ◌*◌, ◌<◌, ◌≤◌, [], length, take, sym, ap, ◌∙◌, subst, arith}
+use Rattle.std.proofs.Common.{◌≡◌, ◌-◌, ◌*◌, ◌<◌, ◌≤◌, [], length, take, slice_index, sym, ap, ◌∙◌, subst, arith}
+use Rattle.std.proofs.lemmas.Bool.Decides.{nat_tests}
+use Rattle.algebra.specs.Words.{word}
+use Rattle.cheapest.specs.Cheapest.{Sole}
 use Rattle.std.proofs.lemmas.List.{take_more_set, take_all}
 use Rattle.generator.specs.Parts.{size}
 use Rattle.least.specs.Least.{best}
 use Rattle.least.proofs.Tracing.{Traced, trace_none, trace_all}
-use Rattle.algebra.specs.Words.{word}
-use Rattle.cheapest.specs.Cheapest.{Sole}
 use Rattle.cheapest.specs.Trellises.{trellis_of}
 use Rattle.cheapest.proofs.Finding.{live, cheapest, sole}
-use Rattle.trellis.proofs.Choosing.{tells_some, sole_way}
 use Rattle.trellis.proofs.Following.{follows}
 use Rattle.trellis.proofs.Shaping.{states_are, next_state}
 use Rattle.trellis.proofs.table.LeastCosts.trace.Goals as goal
@@ -39,17 +39,6 @@ loop-place-preserved g c =
     let traced = follows t n i s inside x (take i out) c.pick-x.ensures c.loop-place.invariant.0 in
     (rw (c.next-state.ensures.value, take_more_set out i x here) traced, rw c.next-state.ensures.value (next_state f gen trellis.shape trellis.shaped g.F.Field.laws i s x))
 
-pub unwrap-requires : goal.unwrap-requires
-unwrap-requires g c =
-    let trellis = c.args.self.now.trellis.now in
-    let gen = trellis.generator.now in
-    let costs = g.R.Reception.costs trellis.reception.now in
-    let t = trellis_of g.F.Field.ops gen costs trellis.coset in
-    let known = trellis.known in
-    let some : 0 < trellis.shape.highs * trellis.shape.lows = omega (arith, states_are g.F.Field.ops gen trellis.shape trellis.shaped) in
-    let whole : best t (size gen - 0) 0 0 ≡ best t (size gen) 0 0 = let all : size gen - 0 ≡ size gen = omega arith in ap (λ k. best t k 0 0) all in
-    tells_some c.via.result _ _ c.via.ensures (omega (arith, c.row.ensures.holds.ways_are 0 (omega (arith, c.row.ensures.states)), ap (λ r. r.1) whole, live g.F.Field.ops g.F.Field.laws gen costs trellis.coset known))
-
 pub returns : goal.returns
 returns g c =
     let trellis = c.args.self.now.trellis.now in
@@ -66,15 +55,14 @@ returns g c =
     let known = trellis.known in
     let some : 0 < trellis.shape.highs * trellis.shape.lows = omega (arith, states_are f gen trellis.shape trellis.shaped) in
     let whole : best t (n - 0) 0 0 ≡ best t n 0 0 = let all : n - 0 ≡ n = omega arith in ap (λ k. best t k 0 0) all in
-    let least = c.unwrap.result in
-    let told = rw c.unwrap.ensures at c.via.ensures in
-    let row = c.row.ensures.holds in
-    let inside : 0 < length c.row.result.costs.now = omega (arith, c.row.ensures.states) in
-    let cost : least.cost ≡ (best t n 0 0).0 = omega (arith, told.0, row.costs_are 0 inside, ap (λ r. r.0) whole) in
-    let ways = told.1 ∙ row.ways_are 0 inside ∙ ap (λ r. r.1) whole in
+    let row = c.row-first.ensures.holds in
+    let inside : 0 < length c.row-first.result.costs.now = omega (arith, c.row-first.ensures.states) in
+    let cost = row.costs_are 0 inside ∙ ap (λ r. r.0) whole in
+    let ways = row.ways_are 0 inside ∙ ap (λ r. r.1) whole in
     let some_way = live f l gen costs trellis.coset known in
+    let had : 0 < slice_index c.row-first.result.ways.now 0 = omega (arith, ways) in
     let all = trace_all t n c.loop-place.state out (rw (ends, none, take_all n out full) at c.loop-place.invariant.0) in
     record {
       cheapest = cheapest f l gen costs trellis.coset out all.0.0 all.0.1 all.1 _ cost;
-      sole = subst (Sole f gen costs trellis.coset (word out) least.cost) (sole_way least.sole) (sole f l gen costs trellis.coset out all.0.0 all.0.1 all.1 _ _ cost ways (omega (arith, ways)));
+      sole = subst (Sole f gen costs trellis.coset (word out) (slice_index c.row-first.result.costs.now 0)) (grind (arith, nat_tests, had)) (sole f l gen costs trellis.coset out all.0.0 all.0.1 all.1 _ _ cost ways had);
     }
