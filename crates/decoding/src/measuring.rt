@@ -33,5 +33,7 @@ pub fn distance<F: Field>(generator: &Generator, work: &mut [u32]) -> Result<Opt
     ensures told { DistanceFound F.Field.ops generator.now (length work.old) result }
     ensures work { MatchResult result (λ _. Cleared work.new) (λ _. work.new ≡ work.old) }
 {
-    lightest::<F>(generator, work)
+    // The answer is bound, so that an edit of it alone can be tried.
+    let found = lightest::<F>(generator, work)?;
+    Ok(found)
 }
