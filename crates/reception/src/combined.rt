@@ -31,7 +31,7 @@ impl<P: Reception, Q: Reception> Reception for Combined<P, Q> {
     }
 
     fn cost(&self, place: usize, symbol: u8) -> u16 {
-        if place >= self.len() {
+        if place >= self.first.len() || place >= self.second.len() {
             return 0;
         }
         let first = self.first.cost(place, symbol);
