@@ -6,3 +6,4 @@ pub mod Only
 pub mod Printing
 pub mod Spaces
 pub mod Spelling
+pub mod Zeros

@@ -18,7 +18,7 @@ pub enum Order {
 }
 
 // What a line says.
-#[derive(Clone, Debug, PartialEq, Eq, Drop)]
+#[derive(Clone, Copy, Debug, PartialEq, Eq)]
 pub enum Command {
     // `kind Q N`: the field has `order` symbols, and a row has `length` of them.
     Kind { order: Order, length: usize },
