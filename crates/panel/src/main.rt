@@ -3,7 +3,7 @@
 
 use arrayvec::ArrayVec;
 use notation::word::LONGEST;
-use replies::Answer;
+use replies::Told;
 use session::{Panel, answer_line};
 use std::io;
 use std::io::Read;
@@ -33,14 +33,6 @@ fn next_line<R: Read>(input: &mut R) -> io::Result<Option<ArrayVec<u8, HELD>>> {
     Ok(line)
 }
 
-fn show(rt: &HostRuntime, answer: Answer) -> io::Result<()> {
-    match answer {
-        Some(Ok(reply)) => println!(rt; "{reply}"),
-        Some(Err(refusal)) => println!(rt; "no {}", refusal.number()),
-        None => println!(rt; "??"),
-    }
-}
-
 fn main(rt: HostRuntime) -> io::Result<()> {
     let mut input = rt.stdin();
     let mut work = [0; WORK];
@@ -52,7 +44,7 @@ fn main(rt: HostRuntime) -> io::Result<()> {
         };
         let (next, answer) = answer_line(panel, &line, &mut work);
         panel = next;
-        show(&rt, answer)?;
+        println!(rt; "{}", Told(answer))?;
     }
     Ok(())
 }

@@ -3,7 +3,7 @@ ghost use Rattle.std.specs.Prelude.{◌≡◌, Some, min};
 ghost use Rattle.arrayvec.specs.ArrayVec.{array_vec_len};
 ghost use Rattle.code.specs.Views.{generator_of};
 ghost use Rattle.panel.specs.Calls.{Heard, Sent};
-ghost use Rattle.panel.specs.Printed.{printed_reply};
+ghost use Rattle.panel.specs.Printed.{printed_answer, printed_reply};
 
 use arrayvec::ArrayVec;
 use code::Code;
@@ -48,6 +48,22 @@ impl fmt::Display for Reply {
             Reply::Distance(Some(distance)) => write!(f, "ok {distance}"),
             Reply::Distance(None) => f.write_str("ok none"),
             Reply::Figure(figure) => write!(f, "ok {figure}"),
+        }
+    }
+}
+
+// An answer as the line that the panel prints for it, without the line feed.
+#[derive(Drop)]
+pub(crate) struct Told(pub(crate) Answer);
+
+impl fmt::Display for Told {
+    ghost output = { λ told. Some (printed_answer told.0) };
+
+    fn fmt<W: fmt::Write>(&self, f: &mut fmt::Formatter<W>) -> fmt::Result {
+        match &self.0 {
+            Some(Ok(reply)) => write!(f, "{reply}"),
+            Some(Err(refusal)) => write!(f, "no {}", refusal.number()),
+            None => f.write_str("??"),
         }
     }
 }
