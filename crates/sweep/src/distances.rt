@@ -9,7 +9,7 @@ fn least_distance(codewords: &[Word]) -> Option<u32> {
     codewords
         .iter()
         .enumerate()
-        .flat_map(|(i, a)| codewords.iter().take(i).map(move |b| differing(a, b)))
+        .filter_map(|(i, a)| codewords.iter().take(i).map(|b| differing(a, b)).min())
         .min()
 }
 
