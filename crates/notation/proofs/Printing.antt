@@ -64,3 +64,11 @@ shown_more word i c h is =
     let here : encode_utf8 c ≡ shown (get_or word i 0) ∷ [] = encode_ascii c small ∙ ap (λ (x : ℕ). x ∷ []) is in
     let more : map shown (take (i + 1) word) ≡ map shown (take i word) ++ shown (get_or word i 0) ∷ [] = ap (map shown) (take_more word i 0 h) ∙ map-append shown (take i word) (get_or word i 0 ∷ []) in
     ap (λ (xs : List ℕ). map shown (take i word) ++ xs) here ∙ sym more
+
+pub printed_none : (word : List ℕ) → length word ≡ 0 → printed word ≡ codes "-"
+printed_none [] e = refl
+printed_none (v ∷ vs) e = absurd (omega (arith, e))
+
+pub printed_some : (word : List ℕ) → 0 < length word → printed word ≡ map shown word
+printed_some [] h = absurd (omega (arith, h))
+printed_some (v ∷ vs) h = refl
